@@ -1,0 +1,3 @@
+-- What the crates above say of rows of bytes, each thing once.
+pub mod Lists
+pub mod Numbers
