@@ -1,0 +1,2 @@
+-- Digests proved by computation. A crate of its own, since computing them takes seconds and every must-fail edit checks its crate anew.
+pub mod Examples
