@@ -1,3 +1,6 @@
 -- What the crates above say of rows of bytes, each thing once.
 pub mod Lists
 pub mod Numbers
+pub mod PartLaws
+pub mod OnPartLaws
+pub mod WriteLaws
