@@ -4,3 +4,6 @@ pub mod Numbers
 pub mod PartLaws
 pub mod OnPartLaws
 pub mod WriteLaws
+pub mod NthLaws
+pub mod NumberLaws
+pub mod Same
