@@ -7,9 +7,10 @@ use native.Mathlib.Omega.{arith}
 use lib.Arith.{mod-mul}
 use lib.ListN.{length, take, drop, getD, replicate}
 use lib.Seq.{getD-drop}
-use Rattle.octets.specs.Lists.{part}
+use Rattle.octets.specs.Lists.{part, writeAt}
 use Rattle.octets.specs.Numbers.{little, spelled}
-use Rattle.octets.specs.PartLaws.{take-part, drop-part}
+use Rattle.octets.specs.PartLaws.{length-part, part-out, take-part, drop-part}
+use Rattle.octets.specs.WriteLaws.{writeAt-append}
 
 -- a row of bytes: every element, and the 0 that is read behind the end, is below 256
 abbrev pub AllBytes : List ℕ → Type 0
@@ -76,6 +77,16 @@ little-part-one zero (b ∷ l) = add-zero b
 little-part-one (suc at) [] = refl
 little-part-one (suc at) (b ∷ l) = little-part-one at l
 
+pub little-part-lt : (at n : ℕ) (l : List ℕ) → AllBytes l → little (part at n l) < 256 ^ n
+little-part-lt at n l h =
+    let short : length (part at n l) ≤ n = rw length-part (omega arith) in
+    little-lt n (part at n l) (bytes-part at n l h) short
+
+-- behind the end stands nothing
+pub little-part-out : (at n : ℕ) (l : List ℕ) → length l ≤ at → little (part at n l) ≡ 0
+unfolding little
+little-part-out at n l h = rw (part-out at n l h)
+
 -- ---- the row that spells a number
 
 pub length-spelled : (n v : ℕ) → length (spelled n v) ≡ n
@@ -118,3 +129,8 @@ pub spelled-add : (n m v : ℕ) → spelled (n + m) v ≡ spelled n v ++ spelled
 unfolding spelled
 spelled-add zero m v = rw (zero-add, pow-zero, div-one)
 spelled-add (suc n) m v = rw (suc-add, spelled-add n m (v / 256), div-div-eq-div-mul, pow-succ')
+
+-- a number is written by its n lowest digits, and then by the m above them
+pub writeAt-spelled-add : (at n m v : ℕ) (l : List ℕ) → writeAt (at + n) (spelled m (v / 256 ^ n)) (writeAt at (spelled n v) l) ≡ writeAt at (spelled (n + m) v) l
+writeAt-spelled-add at n m v l =
+    rw spelled-add (rw length-spelled at (writeAt-append at (spelled n v) (spelled m (v / 256 ^ n)) l))

@@ -1,7 +1,7 @@
 -- The test that two rows of bytes are the same, and what its answer says.
 use mathlib.Core.Bool.{Bool, true, false, _&&_, and-eq-true-iff, false≢true}
 use mathlib.Core.List.{List, [], _∷_}
-use mathlib.Core.Path.{_≡_, refl}
+use mathlib.Core.Path.{_≡_, refl, sym}
 use Prim.Native.Nat.{ℕ}
 use borrow.Author.Tests.{eq-eqb, eqb-true}
 use lib.Dec.{eqb}
@@ -36,3 +36,8 @@ ne-same l m h = go (sameBytes l m) refl
     go : (b : Bool) → sameBytes l m ≡ b → sameBytes l m ≡ false
     go true e = absurd (h (same-eq l m e))
     go false e = e
+
+-- an answer that is true exactly where the rows are the same is this test's
+pub same-decided : (r : Bool) (l m : List ℕ) → (r ≡ true → l ≡ m) → (l ≡ m → r ≡ true) → r ≡ sameBytes l m
+same-decided true l m f g = sym (eq-same l m (f refl))
+same-decided false l m f g = sym (ne-same l m (λ e. false≢true (g e)))

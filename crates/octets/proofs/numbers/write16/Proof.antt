@@ -1,0 +1,30 @@
+-- `octets::numbers::write16` meets its contract: a number of two bytes is written by its lowest byte, and then by the one above it. Assumes nothing.
+use mathlib.Core.Path.{sym}
+use Rattle.octets.specs.Numbers.{spelled}
+use Rattle.octets.specs.NumberLaws.{writeAt-spelled-add}
+use Rattle.octets.specs.WriteLaws.{writeAt-out}
+use borrow.Author.Needs.{needs}
+use Rattle.octets.proofs.numbers.write16.Statement.{statement}
+use Rattle.octets.proofs.numbers.write16.Tie as tie
+
+returns : tie.Need-returns
+returns c = sym (writeAt-out (c .before .before .args .at) (spelled 2 (c .before .before .args .v)) (c .before .before .args .s .now) (c .if1 .taken))
+
+put-requires : tie.Need-put-requires
+put-requires c κs = search needs
+
+add-put : tie.Need-add-put
+add-put c = search needs
+
+put-requires-2 : tie.Need-put-requires-2
+put-requires-2 c κs = search needs
+
+same-length : tie.Need-same-length
+same-length c = search needs
+
+returns-2 : tie.Need-returns-2
+returns-2 c = rw (c .before .before .put2 .ensures, c .before .before .before .before .before .before .put .ensures) (writeAt-spelled-add (c .before .before .before .before .before .before .before .before .before .before .args .at) 1 1 (c .before .before .before .before .before .before .before .before .before .before .args .v) (c .before .before .before .before .before .before .before .before .before .before .args .s .now))
+
+pub write16-spec : {M : Type 1} → statement M
+write16-spec =
+    tie.close (tie.spec returns put-requires add-put put-requires-2 same-length returns-2)
