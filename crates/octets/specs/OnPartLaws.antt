@@ -4,12 +4,12 @@ use mathlib.Core.List.{List, [], _∷_, _++_, append-assoc, append-nil}
 use mathlib.Core.Logic.{_⊎_, inl, inr}
 use mathlib.Core.Path.{_≡_, refl, sym, _∙_}
 use Prim.Native.Nat.{ℕ, zero, suc, _+_, _-_, _≤_, min}
-use native.Mathlib.Nat.{zero-add, suc-add, add-assoc, suc-sub-suc, sub-zero, suc-ne-zero, le-refl, sub-self, not-suc-le-zero, le-of-suc-le-suc}
+use native.Mathlib.Nat.{add-zero, zero-add, suc-add, add-assoc, suc-sub-suc, sub-zero, suc-ne-zero, le-refl, sub-self, not-suc-le-zero, le-of-suc-le-suc}
 use native.Mathlib.Omega.{arith}
-use lib.ListN.{length, take, drop, length-take, length-drop, length-append, take-append-drop}
+use lib.ListN.{length, take, drop, getD, length-take, length-drop, length-append, take-append-drop}
 use lib.Seq.{take-nil, drop-nil, take-take, drop-drop}
 use Rattle.octets.specs.Lists.{part, onPart, KeepsLength}
-use Rattle.octets.specs.PartLaws.{cut-same, length-part, part-take, take-part, part-part, drop-take, take-add-part, drop-part-rest, take-append-ge, drop-append-ge, take-same, drop-same}
+use Rattle.octets.specs.PartLaws.{cut-same, getD-part, length-part, part-take, take-part, part-part, drop-take, take-add-part, drop-part-rest, take-append-ge, drop-append-ge, take-same, drop-same}
 
 -- two parts, the n places from a on and the m places from b on, of which one ends before the other begins
 abbrev pub Apart : ℕ → ℕ → ℕ → ℕ → Type 0
@@ -36,7 +36,7 @@ module _ {A : Type 0} where
   unfolding onPart
   onPart-inside a n b m f l h =
       let bn : b ≤ n = omega arith in
-      rw (part-part, take-part b a n l bn, take-add-part, append-assoc, append-assoc, append-assoc, drop-part-rest (b + m) a n l h, add-assoc)
+      rw (part-part, take-part b a n l bn, take-add-part) (simp append-assoc (rw (drop-part-rest (b + m) a n l h, add-assoc)))
 
 module _ {A : Type 0} (f : List A → List A) (keeps : KeepsLength f) where
   -- ---- length
@@ -55,7 +55,7 @@ module _ {A : Type 0} (f : List A → List A) (keeps : KeepsLength f) where
   -- the two ways down a list, by which the next laws go
   onPart-none : (at n : ℕ) → onPart at n f [] ≡ []
   unfolding onPart part
-  onPart-none at n = rw (take-nil, drop-nil, drop-nil, take-nil, nothing)
+  onPart-none at n = rw (take-nil at, drop-nil at, drop-nil (at + n), take-nil n, nothing)
 
   onPart-next : (at n : ℕ) (x : A) (l : List A) → onPart (suc at) n f (x ∷ l) ≡ x ∷ onPart at n f l
   unfolding onPart part
@@ -71,7 +71,7 @@ module _ {A : Type 0} (f : List A → List A) (keeps : KeepsLength f) where
 
   pub drop-onPart-before : (k at n : ℕ) (l : List A) → k ≤ at → drop k (onPart at n f l) ≡ onPart (at - k) n f (drop k l)
   drop-onPart-before zero at n l h = rw sub-zero
-  drop-onPart-before (suc k) at n [] h = rw (onPart-none, onPart-none)
+  drop-onPart-before (suc k) at n [] h = rw (onPart-none at n, onPart-none (at - suc k) n)
   drop-onPart-before (suc k) zero n (x ∷ l) h = absurd (not-suc-le-zero h)
   drop-onPart-before (suc k) (suc at) n (x ∷ l) h = rw (onPart-next, suc-sub-suc, drop-onPart-before k at n l (le-of-suc-le-suc h))
 
@@ -95,7 +95,7 @@ module _ {A : Type 0} (f : List A → List A) (keeps : KeepsLength f) where
   take-onPart-behind k at n l h =
       let e : length (head at n l) ≤ k = rw length-head (omega arith) in
       let rest : min (k - length (head at n l)) (length (drop (at + n) l)) ≡ min (k - (at + n)) (length (drop (at + n) l)) = rw (length-head, length-drop) (omega arith) in
-      rw (onPart-head, take-append-ge, onPart-head, head-take, drop-take, take-same (k - length (head at n l)) (k - (at + n)) (drop (at + n) l) rest)
+      rw (onPart-head at n l, take-append-ge, onPart-head at n (take k l), head-take, drop-take, take-same (k - length (head at n l)) (k - (at + n)) (drop (at + n) l) rest)
 
   pub drop-onPart-behind : (k at n : ℕ) (l : List A) → at + n ≤ k → drop k (onPart at n f l) ≡ drop k l
   drop-onPart-behind k at n l h =
@@ -108,16 +108,29 @@ module _ {A : Type 0} (f : List A → List A) (keeps : KeepsLength f) where
   unfolding onPart part
   onPart-whole n l = rw (zero-add, take-take n n l (le-refl n), drop-take, sub-self) (append-nil (f (take n l)))
 
+  -- a part that holds the changed one
+  pub part-onPart-inside : (a n b m : ℕ) (l : List A) → a ≤ b → b + m ≤ a + n → part a n (onPart b m f l) ≡ onPart (b - a) m f (part a n l)
+  unfolding part
+  part-onPart-inside a n b m l h k =
+      let fits : b - a + m ≤ n = omega arith in
+      rw (drop-onPart-before a b m l h) (take-onPart-behind n (b - a) m (drop a l) fits)
+
   pub part-onPart-same : (at n : ℕ) (l : List A) → part at n (onPart at n f l) ≡ f (part at n l)
   unfolding part
   part-onPart-same at n l =
-      let e : 0 + n ≤ n = omega arith in
-      rw (drop-onPart-before at at n l (le-refl at), sub-self, take-onPart-behind n 0 n (drop at l) e) (onPart-whole n (drop at l))
+      part-onPart-inside at n at n l (le-refl at) (le-refl (at + n)) ∙ rw sub-self (onPart-whole n (drop at l))
 
   pub part-onPart-apart : (a n b m : ℕ) (l : List A) → Apart a n b m → part b m (onPart a n f l) ≡ part b m l
   unfolding part
   part-onPart-apart a n b m l (inl h) = rw (drop-onPart-behind b a n l h)
   part-onPart-apart a n b m l (inr h) = sym (part-take b m a (onPart a n f l) h) ∙ rw (take-onPart-before a a n l (le-refl a)) (part-take b m a l h)
+
+  pub getD-onPart-apart : (a n i : ℕ) (l : List A) (d : A) → Apart a n i 1 → getD (onPart a n f l) i d ≡ getD l i d
+  getD-onPart-apart a n i l d h =
+      single (onPart a n f l) ∙ rw (part-onPart-apart a n i 1 l h) (sym (single l))
+    where
+      single : (m : List A) → getD m i d ≡ getD (part i 1 m) 0 d
+      single m = rw (getD-part i 1 m 0 d (omega arith), add-zero)
 
   -- ---- two changes
 

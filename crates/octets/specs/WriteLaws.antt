@@ -6,10 +6,10 @@ use native.Mathlib.Nat.{le-refl, not-suc-le-zero, le-of-suc-le-suc}
 use native.Mathlib.Decide.{decLe}
 use native.Mathlib.Numerals.{add-one}
 use native.Mathlib.Omega.{arith}
-use lib.ListN.{length, take, drop, set, length-drop, take-append-drop, drop-of-length-le}
+use lib.ListN.{length, take, drop, getD, set, length-drop, take-append-drop, drop-of-length-le}
 use lib.Seq.{sets, take-nil, take-all, take-length, drop-length, drop-drop, take-take}
 use Rattle.octets.specs.Lists.{part, over, writeAt, onPart, KeepsLength}
-use Rattle.octets.specs.OnPartLaws.{Apart, onPart-id, onPart-comm, drop-onPart-behind, onPart-pieces, length-onPart, part-onPart-same, part-onPart-apart}
+use Rattle.octets.specs.OnPartLaws.{Apart, onPart-id, onPart-comm, drop-onPart-before, drop-onPart-behind, getD-onPart-apart, onPart-pieces, length-onPart, part-onPart-same, part-onPart-apart}
 use Rattle.octets.specs.PartLaws.{length-part, length-part-in, take-min, drop-min, take-part, drop-part, take-add-part, drop-take}
 
 module _ {A : Type 0} where
@@ -140,8 +140,20 @@ module _ {A : Type 0} where
   take-writeAt (suc k) (suc at) new [] = rw over-nothing
   take-writeAt (suc k) (suc at) new (x ∷ old) = rw (take-writeAt k at new old)
 
+  pub drop-writeAt-before : (k at : ℕ) (new old : List A) → k ≤ at → drop k (writeAt at new old) ≡ writeAt (at - k) new (drop k old)
+  drop-writeAt-before k at new old h =
+      rw (writeAt-onPart at new old, writeAt-onPart (at - k) new (drop k old)) (drop-onPart-before (over new) (length-over new) k at (length new) old h)
+
   pub drop-writeAt-behind : (k at : ℕ) (new old : List A) → at + length new ≤ k → drop k (writeAt at new old) ≡ drop k old
   drop-writeAt-behind k at new old h = rw writeAt-onPart (drop-onPart-behind (over new) (length-over new) k at (length new) old h)
+
+  -- a part that begins no later than the write: what does not fit in the part is not seen in it
+  pub part-writeAt-inside : (b m at : ℕ) (new old : List A) → b ≤ at → part b m (writeAt at new old) ≡ writeAt (at - b) new (part b m old)
+  unfolding part
+  part-writeAt-inside b m at new old h = rw (drop-writeAt-before b at new old h) (take-writeAt m (at - b) new (drop b old))
+
+  pub getD-writeAt-apart : (at : ℕ) (new : List A) (i : ℕ) (old : List A) (d : A) → Apart at (length new) i 1 → getD (writeAt at new old) i d ≡ getD old i d
+  getD-writeAt-apart at new i old d h = rw writeAt-onPart (getD-onPart-apart (over new) (length-over new) at (length new) i old d h)
 
   -- ---- two writes
 
@@ -191,9 +203,7 @@ module _ {A : Type 0} where
             drop-drop,
             ← end,
             over-part,
-            append-assoc,
-            append-assoc,
-          )
+          ) (simp append-assoc)
 
   -- a store is a write, and so is a run of stores
   pub writeAt-one : (at : ℕ) (x : A) (old : List A) → writeAt at (x ∷ []) old ≡ set old at x

@@ -1,5 +1,6 @@
 -- `octets::numbers::read16` meets its contract: a row of two bytes is spelled by its first byte and by the one behind it. Assumes nothing.
 use mathlib.Core.Path.{sym}
+use Prim.Native.Nat.{_+_}
 use Rattle.octets.specs.NumberLaws.{little-part-add, little-part-one, little-part-out}
 use borrow.Author.Needs.{needs}
 use Rattle.octets.proofs.numbers.read16.Statement.{statement}
@@ -30,7 +31,17 @@ add-result : tie.Need-add-result
 add-result c = search needs
 
 returns-2 : tie.Need-returns-2
-returns-2 c = rw (c .before .before .wide .ensures, c .before .before .before .byte .ensures, c .wide2 .ensures, c .before .byte2 .ensures, ← little-part-one, ← little-part-one) (sym (little-part-add (c .before .before .before .before .before .before .args .at) 1 1 (c .before .before .before .before .before .before .args .s .now)))
+returns-2 c =
+    let args = c .before .before .before .before .before .before .args in
+    rw (
+      c .before .before .wide .ensures,
+      c .before .before .before .byte .ensures,
+      c .wide2 .ensures,
+      c .before .byte2 .ensures,
+      ← little-part-one (args .at) (args .s .now),
+      ← little-part-one (args .at + 1) (args .s .now),
+    )
+    (sym (little-part-add (args .at) 1 1 (args .s .now)))
 
 pub read16-spec : {M : Type 1} → statement M
 read16-spec =
