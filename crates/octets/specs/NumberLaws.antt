@@ -10,7 +10,7 @@ use lib.Seq.{getD-drop}
 use Rattle.octets.specs.Lists.{part, writeAt}
 use Rattle.octets.specs.Numbers.{little, spelled}
 use Rattle.octets.specs.PartLaws.{length-part, part-out, take-part, drop-part}
-use Rattle.octets.specs.WriteLaws.{writeAt-append}
+use Rattle.octets.specs.WriteLaws.{over-split, writeAt-append, writeAt-def}
 
 -- a row of bytes: every element, and the 0 that is read behind the end, is below 256
 abbrev pub AllBytes : List ℕ → Type 0
@@ -24,9 +24,24 @@ bytes-take (suc n) [] h i = omega arith
 bytes-take (suc n) (b ∷ l) h zero = h zero
 bytes-take (suc n) (b ∷ l) h (suc i) = bytes-take n l (λ j. h (suc j)) i
 
+pub bytes-drop : (n : ℕ) (l : List ℕ) → AllBytes l → AllBytes (drop n l)
+bytes-drop n l h i = rw getD-drop (h (n + i))
+
 pub bytes-part : (at n : ℕ) (l : List ℕ) → AllBytes l → AllBytes (part at n l)
 unfolding part
-bytes-part at n l h = bytes-take n (drop at l) (λ i. rw getD-drop (h (at + i)))
+bytes-part at n l h = bytes-take n (drop at l) (bytes-drop at l h)
+
+pub bytes-append : (l m : List ℕ) → AllBytes l → AllBytes m → AllBytes (l ++ m)
+bytes-append [] m h k i = k i
+bytes-append (b ∷ l) m h k zero = h zero
+bytes-append (b ∷ l) m h k (suc i) = bytes-append l m (λ j. h (suc j)) k i
+
+pub bytes-writeAt : (at : ℕ) (new old : List ℕ) → AllBytes new → AllBytes old → AllBytes (writeAt at new old)
+bytes-writeAt at new old h k =
+    let d = drop at old in
+    rw (writeAt-def, over-split)
+    (bytes-append (take at old) (take (length d) new ++ drop (length new) d) (bytes-take at old k)
+    (bytes-append (take (length d) new) (drop (length new) d) (bytes-take (length d) new h) (bytes-drop (length new) d (bytes-drop at old k))))
 
 pub bytes-spelled : (n v : ℕ) → AllBytes (spelled n v)
 unfolding spelled
@@ -131,6 +146,7 @@ spelled-add zero m v = rw (zero-add, pow-zero, div-one)
 spelled-add (suc n) m v = rw (suc-add, spelled-add n m (v / 256), div-div-eq-div-mul, pow-succ')
 
 -- a number is written by its n lowest digits, and then by the m above them
-pub writeAt-spelled-add : (at n m v : ℕ) (l : List ℕ) → writeAt (at + n) (spelled m (v / 256 ^ n)) (writeAt at (spelled n v) l) ≡ writeAt at (spelled (n + m) v) l
+pub writeAt-spelled-add : (at n m v : ℕ) (l : List ℕ)
+    → writeAt (at + n) (spelled m (v / 256 ^ n)) (writeAt at (spelled n v) l) ≡ writeAt at (spelled (n + m) v) l
 writeAt-spelled-add at n m v l =
     rw spelled-add (rw length-spelled at (writeAt-append at (spelled n v) (spelled m (v / 256 ^ n)) l))

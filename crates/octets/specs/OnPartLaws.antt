@@ -2,14 +2,14 @@
 -- None asks that the part lies inside the list: a change that keeps the length of what it is given has nothing to do behind the end.
 use mathlib.Core.List.{List, [], _∷_, _++_, append-assoc, append-nil}
 use mathlib.Core.Logic.{_⊎_, inl, inr}
-use mathlib.Core.Path.{_≡_, refl, sym, _∙_}
+use mathlib.Core.Path.{_≡_, refl, sym, ap, _∙_}
 use Prim.Native.Nat.{ℕ, zero, suc, _+_, _-_, _≤_, min}
-use native.Mathlib.Nat.{add-zero, zero-add, suc-add, add-assoc, suc-sub-suc, sub-zero, suc-ne-zero, le-refl, sub-self, not-suc-le-zero, le-of-suc-le-suc}
+use native.Mathlib.Nat.{zero-add, suc-add, add-assoc, suc-sub-suc, sub-zero, suc-ne-zero, le-refl, sub-self, not-suc-le-zero, le-of-suc-le-suc}
 use native.Mathlib.Omega.{arith}
 use lib.ListN.{length, take, drop, getD, length-take, length-drop, length-append, take-append-drop}
 use lib.Seq.{take-nil, drop-nil, take-take, drop-drop}
 use Rattle.octets.specs.Lists.{part, onPart, KeepsLength}
-use Rattle.octets.specs.PartLaws.{cut-same, getD-part, length-part, part-take, take-part, part-part, drop-take, take-add-part, drop-part-rest, take-append-ge, drop-append-ge, take-same, drop-same}
+use Rattle.octets.specs.PartLaws.{cut-same, getD-single, length-part, part-take, take-part, part-part, drop-take, take-add-part, drop-part-rest, take-append-ge, drop-append-ge, take-same, drop-same}
 
 -- two parts, the n places from a on and the m places from b on, of which one ends before the other begins
 abbrev pub Apart : ℕ → ℕ → ℕ → ℕ → Type 0
@@ -18,9 +18,10 @@ Apart a n b m = (a + n ≤ b) ⊎ (b + m ≤ a)
 module _ {A : Type 0} where
   -- ---- of any change
 
-  pub onPart-pieces : (at n : ℕ) (f : List A → List A) (l : List A) → onPart at n f l ≡ take at l ++ (f (part at n l) ++ drop (at + n) l)
+  -- the definition, to rewrite by at one place
+  pub onPart-def : (at n : ℕ) (f : List A → List A) (l : List A) → onPart at n f l ≡ take at l ++ (f (part at n l) ++ drop (at + n) l)
   unfolding onPart
-  onPart-pieces at n f l = refl
+  onPart-def at n f l = refl
 
   -- only what the change does to that part counts
   pub onPart-same : (at n : ℕ) (f g : List A → List A) (l : List A) → f (part at n l) ≡ g (part at n l) → onPart at n f l ≡ onPart at n g l
@@ -94,8 +95,10 @@ module _ {A : Type 0} (f : List A → List A) (keeps : KeepsLength f) where
   pub take-onPart-behind : (k at n : ℕ) (l : List A) → at + n ≤ k → take k (onPart at n f l) ≡ onPart at n f (take k l)
   take-onPart-behind k at n l h =
       let e : length (head at n l) ≤ k = rw length-head (omega arith) in
-      let rest : min (k - length (head at n l)) (length (drop (at + n) l)) ≡ min (k - (at + n)) (length (drop (at + n) l)) = rw (length-head, length-drop) (omega arith) in
-      rw (onPart-head at n l, take-append-ge, onPart-head at n (take k l), head-take, drop-take, take-same (k - length (head at n l)) (k - (at + n)) (drop (at + n) l) rest)
+      let rest = drop (at + n) l in
+      let count : min (k - length (head at n l)) (length rest) ≡ min (k - (at + n)) (length rest) = rw (length-head, length-drop) (omega arith) in
+      rw (onPart-head at n l, take-append-ge, onPart-head at n (take k l), head-take, drop-take)
+      (ap (λ (r : List A). head at n l ++ r) (take-same (k - length (head at n l)) (k - (at + n)) rest count))
 
   pub drop-onPart-behind : (k at n : ℕ) (l : List A) → at + n ≤ k → drop k (onPart at n f l) ≡ drop k l
   drop-onPart-behind k at n l h =
@@ -126,27 +129,24 @@ module _ {A : Type 0} (f : List A → List A) (keeps : KeepsLength f) where
   part-onPart-apart a n b m l (inr h) = sym (part-take b m a (onPart a n f l) h) ∙ rw (take-onPart-before a a n l (le-refl a)) (part-take b m a l h)
 
   pub getD-onPart-apart : (a n i : ℕ) (l : List A) (d : A) → Apart a n i 1 → getD (onPart a n f l) i d ≡ getD l i d
-  getD-onPart-apart a n i l d h =
-      single (onPart a n f l) ∙ rw (part-onPart-apart a n i 1 l h) (sym (single l))
-    where
-      single : (m : List A) → getD m i d ≡ getD (part i 1 m) 0 d
-      single m = rw (getD-part i 1 m 0 d (omega arith), add-zero)
+  getD-onPart-apart a n i l d h = getD-single i (onPart a n f l) d ∙ rw (part-onPart-apart a n i 1 l h) (sym (getD-single i l d))
 
   -- ---- two changes
 
   pub onPart-twice : (at n : ℕ) (g : List A → List A) (l : List A) → onPart at n g (onPart at n f l) ≡ onPart at n (λ x. g (f x)) l
   onPart-twice at n g l =
       rw (
-        onPart-pieces at n g (onPart at n f l),
+        onPart-def at n g (onPart at n f l),
         take-onPart-before at at n l (le-refl at),
         part-onPart-same,
         drop-onPart-behind (at + n) at n l (le-refl (at + n)),
       )
-      (sym (onPart-pieces at n (λ x. g (f x)) l))
+      (sym (onPart-def at n (λ x. g (f x)) l))
 
 module _ {A : Type 0} where
   -- the first part ends before the second begins
-  onPart-comm-behind : (f g : List A → List A) → KeepsLength f → KeepsLength g → (a n b m : ℕ) (l : List A) → a + n ≤ b → onPart a n f (onPart b m g l) ≡ onPart b m g (onPart a n f l)
+  onPart-comm-behind : (f g : List A → List A) → KeepsLength f → KeepsLength g → (a n b m : ℕ) (l : List A) → a + n ≤ b
+      → onPart a n f (onPart b m g l) ≡ onPart b m g (onPart a n f l)
   onPart-comm-behind f g keeps-f keeps-g a n b m l h =
       cut-same (a + n) (onPart a n f (onPart b m g l)) (onPart b m g (onPart a n f l))
       (rw (
@@ -162,6 +162,7 @@ module _ {A : Type 0} where
         drop-onPart-behind f keeps-f (a + n) a n l (le-refl (a + n)),
       ))
 
-  pub onPart-comm : (f g : List A → List A) → KeepsLength f → KeepsLength g → (a n b m : ℕ) (l : List A) → Apart a n b m → onPart a n f (onPart b m g l) ≡ onPart b m g (onPart a n f l)
+  pub onPart-comm : (f g : List A → List A) → KeepsLength f → KeepsLength g → (a n b m : ℕ) (l : List A) → Apart a n b m
+      → onPart a n f (onPart b m g l) ≡ onPart b m g (onPart a n f l)
   onPart-comm f g keeps-f keeps-g a n b m l (inl h) = onPart-comm-behind f g keeps-f keeps-g a n b m l h
   onPart-comm f g keeps-f keeps-g a n b m l (inr h) = sym (onPart-comm-behind g f keeps-g keeps-f b m a n l h)

@@ -2,7 +2,7 @@
 use mathlib.Core.List.{List, [], _∷_, _++_}
 use mathlib.Core.Path.{_≡_, refl, sym, ap, _∙_}
 use Prim.Native.Nat.{ℕ, zero, suc, _+_, _-_, _≤_, _<_, min}
-use native.Mathlib.Nat.{zero-min, min-zero, suc-min-suc, sub-zero, zero-sub, suc-sub-suc}
+use native.Mathlib.Nat.{add-zero, zero-min, min-zero, suc-min-suc, sub-zero, zero-sub, suc-sub-suc}
 use native.Mathlib.Omega.{arith}
 use lib.ListN.{length, take, drop, getD, length-take, length-drop, take-append-drop, drop-of-length-le}
 use lib.Seq.{take-length, take-nil, take-take, drop-drop, take-add, getD-take, getD-drop, take-append-le, drop-append-le, take-append-add, drop-append-add}
@@ -30,10 +30,14 @@ module _ {A : Type 0} where
 
   -- past the seam of two lists
   pub take-append-ge : (k : ℕ) (l m : List A) → length l ≤ k → take k (l ++ m) ≡ l ++ take (k - length l) m
-  take-append-ge k l m h = let e : k ≡ length l + (k - length l) = omega arith in ap (λ (i : ℕ). take i (l ++ m)) e ∙ take-append-add l m (k - length l)
+  take-append-ge k l m h =
+      let e : k ≡ length l + (k - length l) = omega arith in
+      ap (λ (i : ℕ). take i (l ++ m)) e ∙ take-append-add l m (k - length l)
 
   pub drop-append-ge : (k : ℕ) (l m : List A) → length l ≤ k → drop k (l ++ m) ≡ drop (k - length l) m
-  drop-append-ge k l m h = let e : k ≡ length l + (k - length l) = omega arith in ap (λ (i : ℕ). drop i (l ++ m)) e ∙ drop-append-add l m (k - length l)
+  drop-append-ge k l m h =
+      let e : k ≡ length l + (k - length l) = omega arith in
+      ap (λ (i : ℕ). drop i (l ++ m)) e ∙ drop-append-add l m (k - length l)
 
   pub drop-take : (k n : ℕ) (l : List A) → drop k (take n l) ≡ take (n - k) (drop k l)
   drop-take zero n l = rw sub-zero
@@ -44,6 +48,11 @@ module _ {A : Type 0} where
   -- two lists that agree before a place and from it on are the same
   pub cut-same : (k : ℕ) (l m : List A) → take k l ≡ take k m → drop k l ≡ drop k m → l ≡ m
   cut-same k l m e f = sym (take-append-drop k l) ∙ rw (e, f) (take-append-drop k m)
+
+  -- the definition, to rewrite by at one place
+  pub part-def : (at n : ℕ) (l : List A) → part at n l ≡ take n (drop at l)
+  unfolding part
+  part-def at n l = refl
 
   -- ---- length
 
@@ -56,12 +65,8 @@ module _ {A : Type 0} where
 
   -- ---- the whole, and nothing
 
-  pub part-zero : (n : ℕ) (l : List A) → part 0 n l ≡ take n l
-  unfolding part
-  part-zero n l = refl
-
   pub part-all : (l : List A) → part 0 (length l) l ≡ l
-  part-all l = rw part-zero (take-length l)
+  part-all l = rw part-def (take-length l)
 
   pub part-out : (at n : ℕ) (l : List A) → length l ≤ at → part at n l ≡ []
   unfolding part
@@ -124,3 +129,7 @@ module _ {A : Type 0} where
   pub getD-part : (at n : ℕ) (l : List A) (i : ℕ) (d : A) → i < n → getD (part at n l) i d ≡ getD l (at + i) d
   unfolding part
   getD-part at n l i d h = rw (getD-take, getD-drop)
+
+  -- an element is a part of one element
+  pub getD-single : (i : ℕ) (l : List A) (d : A) → getD l i d ≡ getD (part i 1 l) 0 d
+  getD-single i l d = rw (getD-part i 1 l 0 d (omega arith), add-zero)

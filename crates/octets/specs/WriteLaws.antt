@@ -1,16 +1,16 @@
 -- Laws of `over` and `writeAt`. A write is a change of a part, so what it leaves alone follows from the laws of `onPart`.
 use mathlib.Core.List.{List, [], _∷_, _++_, append-assoc, append-nil}
 use mathlib.Core.Path.{_≡_, refl, sym, ap, _∙_}
-use Prim.Native.Nat.{ℕ, zero, suc, _+_, _-_, _≤_, min}
-use native.Mathlib.Nat.{le-refl, not-suc-le-zero, le-of-suc-le-suc}
+use Prim.Native.Nat.{ℕ, zero, suc, _+_, _-_, _≤_, _<_, min}
+use native.Mathlib.Nat.{sub-self, le-refl, not-suc-le-zero, le-of-suc-le-suc}
 use native.Mathlib.Decide.{decLe}
 use native.Mathlib.Numerals.{add-one}
 use native.Mathlib.Omega.{arith}
 use lib.ListN.{length, take, drop, getD, set, length-drop, take-append-drop, drop-of-length-le}
 use lib.Seq.{sets, take-nil, take-all, take-length, drop-length, drop-drop, take-take}
 use Rattle.octets.specs.Lists.{part, over, writeAt, onPart, KeepsLength}
-use Rattle.octets.specs.OnPartLaws.{Apart, onPart-id, onPart-comm, drop-onPart-before, drop-onPart-behind, getD-onPart-apart, onPart-pieces, length-onPart, part-onPart-same, part-onPart-apart}
-use Rattle.octets.specs.PartLaws.{length-part, length-part-in, take-min, drop-min, take-part, drop-part, take-add-part, drop-take}
+use Rattle.octets.specs.OnPartLaws.{Apart, onPart-id, onPart-comm, drop-onPart-before, drop-onPart-behind, getD-onPart-apart, onPart-def, length-onPart, part-onPart-same, part-onPart-apart}
+use Rattle.octets.specs.PartLaws.{part-def, getD-single, length-part, length-part-in, take-min, drop-min, take-part, drop-part, take-add-part, drop-take}
 
 module _ {A : Type 0} where
   -- ---- over
@@ -26,6 +26,14 @@ module _ {A : Type 0} where
   over-split [] old = rw take-nil
   over-split (x ∷ new) [] = refl
   over-split (x ∷ new) (y ∷ old) = rw (over-split new old)
+
+  pub over-nothing : (new : List A) → over new [] ≡ []
+  unfolding over
+  over-nothing [] = refl
+  over-nothing (x ∷ new) = refl
+
+  pub over-long : (new old : List A) → length old ≤ length new → over new old ≡ take (length old) new
+  over-long new old h = rw (over-split, drop-of-length-le old h) (append-nil (take (length old) new))
 
   pub over-same : (new old : List A) → length new ≡ length old → over new old ≡ new
   over-same new old e = rw (over-split, ← e, take-length, e, drop-length) (append-nil new)
@@ -61,10 +69,12 @@ module _ {A : Type 0} where
   take-over (suc n) (x ∷ new) [] = refl
   take-over (suc n) (x ∷ new) (y ∷ old) = rw (take-over n new old)
 
-  pub over-nothing : (new : List A) → over new [] ≡ []
+  pub drop-over : (n : ℕ) (new old : List A) → drop n (over new old) ≡ over (drop n new) (drop n old)
   unfolding over
-  over-nothing [] = refl
-  over-nothing (x ∷ new) = refl
+  drop-over zero new old = refl
+  drop-over (suc n) [] old = refl
+  drop-over (suc n) (x ∷ new) [] = sym (over-nothing (drop n new))
+  drop-over (suc n) (x ∷ new) (y ∷ old) = drop-over n new old
 
   -- one list over another behind a third
   pub over-append : (a b old : List A) → over (a ++ b) old ≡ over a (take (length a) old) ++ over b (drop (length a) old)
@@ -84,9 +94,10 @@ module _ {A : Type 0} where
 
   -- ---- writeAt
 
-  written : (at : ℕ) (new old : List A) → writeAt at new old ≡ take at old ++ over new (drop at old)
+  -- the definition, to rewrite by at one place
+  pub writeAt-def : (at : ℕ) (new old : List A) → writeAt at new old ≡ take at old ++ over new (drop at old)
   unfolding writeAt
-  written at new old = refl
+  writeAt-def at new old = refl
 
   pub writeAt-zero : (new old : List A) → writeAt 0 new old ≡ over new old
   unfolding writeAt
@@ -108,10 +119,12 @@ module _ {A : Type 0} where
       rw (writeAt-onPart, part-onPart-same (over new) (length-over new) at (length new) old)
       (over-same new (part at (length new) old) (sym (length-part-in at (length new) old h)))
 
-  pub part-writeAt-apart : (at : ℕ) (new : List A) (b m : ℕ) (old : List A) → Apart at (length new) b m → part b m (writeAt at new old) ≡ part b m old
+  pub part-writeAt-apart : (at : ℕ) (new : List A) (b m : ℕ) (old : List A) → Apart at (length new) b m
+      → part b m (writeAt at new old) ≡ part b m old
   part-writeAt-apart at new b m old h = rw writeAt-onPart (part-onPart-apart (over new) (length-over new) at (length new) b m old h)
 
-  pub writeAt-comm : (a : ℕ) (new : List A) (b : ℕ) (other old : List A) → Apart a (length new) b (length other) → writeAt a new (writeAt b other old) ≡ writeAt b other (writeAt a new old)
+  pub writeAt-comm : (a : ℕ) (new : List A) (b : ℕ) (other old : List A) → Apart a (length new) b (length other)
+      → writeAt a new (writeAt b other old) ≡ writeAt b other (writeAt a new old)
   writeAt-comm a new b other old h =
       simp writeAt-onPart (onPart-comm (over new) (over other) (length-over new) (length-over other) a (length new) b (length other) old h)
 
@@ -142,17 +155,44 @@ module _ {A : Type 0} where
 
   pub drop-writeAt-before : (k at : ℕ) (new old : List A) → k ≤ at → drop k (writeAt at new old) ≡ writeAt (at - k) new (drop k old)
   drop-writeAt-before k at new old h =
-      rw (writeAt-onPart at new old, writeAt-onPart (at - k) new (drop k old)) (drop-onPart-before (over new) (length-over new) k at (length new) old h)
+      rw (writeAt-onPart at new old, writeAt-onPart (at - k) new (drop k old))
+      (drop-onPart-before (over new) (length-over new) k at (length new) old h)
 
   pub drop-writeAt-behind : (k at : ℕ) (new old : List A) → at + length new ≤ k → drop k (writeAt at new old) ≡ drop k old
   drop-writeAt-behind k at new old h = rw writeAt-onPart (drop-onPart-behind (over new) (length-over new) k at (length new) old h)
+
+  pub drop-writeAt-from : (k at : ℕ) (new old : List A) → at ≤ k → drop k (writeAt at new old) ≡ over (drop (k - at) new) (drop k old)
+  drop-writeAt-from k at new old h =
+      let e : k ≡ at + (k - at) = omega arith in
+      ap (λ (i : ℕ). drop i (writeAt at new old)) e
+      ∙ rw (← drop-drop (k - at) at (writeAt at new old), drop-writeAt-before at at new old (le-refl at), sub-self, writeAt-zero, drop-over, drop-drop, ← e)
 
   -- a part that begins no later than the write: what does not fit in the part is not seen in it
   pub part-writeAt-inside : (b m at : ℕ) (new old : List A) → b ≤ at → part b m (writeAt at new old) ≡ writeAt (at - b) new (part b m old)
   unfolding part
   part-writeAt-inside b m at new old h = rw (drop-writeAt-before b at new old h) (take-writeAt m (at - b) new (drop b old))
 
-  pub getD-writeAt-apart : (at : ℕ) (new : List A) (i : ℕ) (old : List A) (d : A) → Apart at (length new) i 1 → getD (writeAt at new old) i d ≡ getD old i d
+  -- a part that begins no earlier than the write
+  pub part-writeAt-from : (b m at : ℕ) (new old : List A) → at ≤ b → part b m (writeAt at new old) ≡ over (drop (b - at) new) (part b m old)
+  unfolding part
+  part-writeAt-from b m at new old h = rw (drop-writeAt-from b at new old h) (take-over m (drop (b - at) new) (drop b old))
+
+  -- a part of what was written
+  pub part-writeAt-of : (b m at : ℕ) (new old : List A) → at ≤ b → b + m ≤ at + length new → b + m ≤ length old
+      → part b m (writeAt at new old) ≡ part (b - at) m new
+  part-writeAt-of b m at new old h k l =
+      let count : length (part b m old) ≡ m = length-part-in b m old l in
+      let long : length (part b m old) ≤ length (drop (b - at) new) = rw (count, length-drop) (omega arith) in
+      rw (part-writeAt-from b m at new old h, over-long (drop (b - at) new) (part b m old) long, count) (sym (part-def (b - at) m new))
+
+  pub getD-writeAt-of : (at : ℕ) (new : List A) (i : ℕ) (old : List A) (d : A) → at ≤ i → i < at + length new → i < length old
+      → getD (writeAt at new old) i d ≡ getD new (i - at) d
+  getD-writeAt-of at new i old d h k l =
+      getD-single i (writeAt at new old) d
+      ∙ rw (part-writeAt-of i 1 at new old h (omega arith) (omega arith)) (sym (getD-single (i - at) new d))
+
+  pub getD-writeAt-apart : (at : ℕ) (new : List A) (i : ℕ) (old : List A) (d : A) → Apart at (length new) i 1
+      → getD (writeAt at new old) i d ≡ getD old i d
   getD-writeAt-apart at new i old d h = rw writeAt-onPart (getD-onPart-apart (over new) (length-over new) at (length new) i old d h)
 
   -- ---- two writes
@@ -163,10 +203,10 @@ module _ {A : Type 0} where
       let low : at ≤ at + length a = omega arith in
       let back : at + length a - at ≡ length a = omega arith in
       rw (
-        written (at + length a) b (writeAt at a old),
+        writeAt-def (at + length a) b (writeAt at a old),
         take-writeAt,
         drop-writeAt-behind (at + length a) at a old (le-refl (at + length a)),
-        written at a (take (at + length a) old),
+        writeAt-def at a (take (at + length a) old),
         take-take at (at + length a) old low,
         drop-take,
         back,
@@ -174,7 +214,7 @@ module _ {A : Type 0} where
         append-assoc,
         ← over-append,
       )
-      (sym (written at (a ++ b) old))
+      (sym (writeAt-def at (a ++ b) old))
 
   over-part : (b m : ℕ) (new l : List A) → take m (over new (drop b l)) ≡ over new (part b m l)
   unfolding part
@@ -193,11 +233,11 @@ module _ {A : Type 0} where
           let inside : offset ≤ n = omega arith in
           let end : at + n ≡ at + offset + (n - offset) = omega arith in
           rw (
-            onPart-pieces at n (writeAt offset new) l,
-            written offset new (part at n l),
+            onPart-def at n (writeAt offset new) l,
+            writeAt-def offset new (part at n l),
             take-part offset at n l inside,
             drop-part,
-            written (at + offset) (take (n - offset) new) l,
+            writeAt-def (at + offset) (take (n - offset) new) l,
             take-add-part,
             over-front,
             drop-drop,

@@ -35,7 +35,9 @@ add-result : tie.Need-add-result
 add-result c = omega (arith, halves c)
 
 returns-2 : tie.Need-returns-2
-returns-2 c = rw (c .before .read16 .ensures, c .read162 .ensures) (sym (little-part-add (c .before .before .before .before .args .at) 2 2 (c .before .before .before .before .args .s .now)))
+returns-2 c =
+    let args = c .before .before .before .before .args in
+    rw (c .before .read16 .ensures, c .read162 .ensures) (sym (little-part-add (args .at) 2 2 (args .s .now)))
 
 pub read32-spec : {M : Type 1} → statement M
 read32-spec =

@@ -8,7 +8,9 @@ use Rattle.octets.proofs.numbers.write16.Statement.{statement}
 use Rattle.octets.proofs.numbers.write16.Tie as tie
 
 returns : tie.Need-returns
-returns c = sym (writeAt-out (c .before .before .args .at) (spelled 2 (c .before .before .args .v)) (c .before .before .args .s .now) (c .if1 .taken))
+returns c =
+    let args = c .before .before .args in
+    sym (writeAt-out (args .at) (spelled 2 (args .v)) (args .s .now) (c .if1 .taken))
 
 put-requires : tie.Need-put-requires
 put-requires c κs = search needs
@@ -23,7 +25,10 @@ same-length : tie.Need-same-length
 same-length c = search needs
 
 returns-2 : tie.Need-returns-2
-returns-2 c = rw (c .before .before .put2 .ensures, c .before .before .before .before .before .before .put .ensures) (writeAt-spelled-add (c .before .before .before .before .before .before .before .before .before .before .args .at) 1 1 (c .before .before .before .before .before .before .before .before .before .before .args .v) (c .before .before .before .before .before .before .before .before .before .before .args .s .now))
+returns-2 c =
+    let args = c .before .before .before .before .before .before .before .before .before .before .args in
+    rw (c .before .before .put2 .ensures, c .before .before .before .before .before .before .put .ensures)
+    (writeAt-spelled-add (args .at) 1 1 (args .v) (args .s .now))
 
 pub write16-spec : {M : Type 1} → statement M
 write16-spec =

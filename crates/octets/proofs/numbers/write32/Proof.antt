@@ -8,7 +8,9 @@ use Rattle.octets.proofs.numbers.write32.Statement.{statement}
 use Rattle.octets.proofs.numbers.write32.Tie as tie
 
 returns : tie.Need-returns
-returns c = sym (writeAt-out (c .before .before .args .at) (spelled 4 (c .before .before .args .v)) (c .before .before .args .s .now) (c .if1 .taken))
+returns c =
+    let args = c .before .before .args in
+    sym (writeAt-out (args .at) (spelled 4 (args .v)) (args .s .now) (c .if1 .taken))
 
 write16-requires : tie.Need-write16-requires
 write16-requires c κs = search needs
@@ -23,7 +25,10 @@ same-length : tie.Need-same-length
 same-length c = search needs
 
 returns-2 : tie.Need-returns-2
-returns-2 c = rw (c .before .before .write162 .ensures, c .before .before .before .before .before .before .write16 .ensures) (writeAt-spelled-add (c .before .before .before .before .before .before .before .before .before .before .args .at) 2 2 (c .before .before .before .before .before .before .before .before .before .before .args .v) (c .before .before .before .before .before .before .before .before .before .before .args .s .now))
+returns-2 c =
+    let args = c .before .before .before .before .before .before .before .before .before .before .args in
+    rw (c .before .before .write162 .ensures, c .before .before .before .before .before .before .write16 .ensures)
+    (writeAt-spelled-add (args .at) 2 2 (args .v) (args .s .now))
 
 pub write32-spec : {M : Type 1} → statement M
 write32-spec =

@@ -8,7 +8,7 @@ use native.Mathlib.Omega.{arith}
 use lib.ListN.{length, take, drop, length-drop}
 use lib.Seq.{take-length, take-all}
 use Rattle.octets.specs.Lists.{part, writeAt}
-use Rattle.octets.specs.PartLaws.{length-part, part-zero, drop-take}
+use Rattle.octets.specs.PartLaws.{length-part, part-def, drop-take}
 use Rattle.octets.specs.WriteLaws.{over-split, writeAt-fit, writeAt-min}
 use borrow.Author.Needs.{needs}
 use Rattle.octets.proofs.parts.lay.Statement.{statement}
@@ -28,7 +28,7 @@ laid : (at s : ℕ) (from new to ys : List ℕ) → s ≡ min at (length to) →
 laid at s from new to ys p q r =
     let count : s + length new - s ≡ length new = omega arith in
     let inside : s + length new ≤ length to = rw (p, q, length-part) (omega arith) in
-    rw (r, copied s (s + length new - s) new to count inside, q, part-zero, writeAt-fit, p) (writeAt-min at from to)
+    rw (r, copied s (s + length new - s) new to count inside, q, part-def, writeAt-fit, p) (writeAt-min at from to)
 
 least-requires : tie.Need-least-requires
 least-requires c κs = search needs
@@ -58,7 +58,13 @@ same-length : tie.Need-same-length
 same-length c = search needs
 
 returns : tie.Need-returns
-returns c = laid (c .before .before .before .before .before .before .before .before .args .at) (c .before .before .before .before .before .least .result) (c .before .before .before .before .before .before .before .before .args .from .now) (c .before .before .before .before .piece .result .now) (c .before .before .before .before .before .before .before .before .args .to .now) (c .before .before .copy .last .1 .0) (c .before .before .before .before .before .least .ensures) (c .before .before .before .before .piece .ensures) (c .before .before .copy .ensures .1)
+returns c =
+    let args = c .before .before .before .before .before .before .before .before .args in
+    let least = c .before .before .before .before .before .least in
+    let piece = c .before .before .before .before .piece in
+    let copy = c .before .before .copy in
+    laid (args .at) (least .result) (args .from .now) (piece .result .now) (args .to .now) (copy .last .1 .0)
+    (least .ensures) (piece .ensures) (copy .ensures .1)
 
 pub lay-spec : {M : Type 1} → statement M
 lay-spec =

@@ -31,7 +31,9 @@ part-result-end : tie.Need-part-result-end
 part-result-end c = search needs
 
 returns : tie.Need-returns
-returns c = rw (c .before .sum .ensures, c .before .before .least .ensures) (clamped (c .before .before .before .before .args .at) (c .before .before .before .before .args .n) (c .before .before .before .before .args .s .now))
+returns c =
+    let args = c .before .before .before .before .args in
+    rw (c .before .sum .ensures, c .before .before .least .ensures) (clamped (args .at) (args .n) (args .s .now))
 
 pub piece-spec : {M : Type 1} → statement M
 piece-spec =

@@ -2,14 +2,17 @@
 use mathlib.Core.Path.{_≡_, sym}
 use Prim.Native.Nat.{_-_}
 use native.Mathlib.Omega.{arith}
-use Rattle.octets.specs.PartLaws.{part-zero}
+use Rattle.octets.specs.PartLaws.{part-def}
 use Rattle.octets.specs.WriteLaws.{onPart-writeAt, writeAt-min, writeAt-nil}
 use borrow.Author.Needs.{needs}
 use Rattle.octets.proofs.parts.place.Statement.{statement}
 use Rattle.octets.proofs.parts.place.Tie as tie
 
 returns : tie.Need-returns
-returns c = let none : c .before .before .before .args .n - c .before .before .before .args .offset ≡ 0 = omega arith in rw (onPart-writeAt, none, writeAt-nil)
+returns c =
+    let args = c .before .before .before .args in
+    let none : args .n - args .offset ≡ 0 = omega arith in
+    rw (onPart-writeAt, none, writeAt-nil)
 
 sum-requires : tie.Need-sum-requires
 sum-requires c κs = search needs
@@ -27,7 +30,16 @@ same-length : tie.Need-same-length
 same-length c = search needs
 
 returns-2 : tie.Need-returns-2
-returns-2 c = rw (c .before .before .lay .ensures, c .before .before .before .before .piece .ensures, c .before .before .before .before .before .sum .ensures, part-zero, writeAt-min) (sym (onPart-writeAt (c .before .before .before .before .before .before .before .before .before .args .at) (c .before .before .before .before .before .before .before .before .before .args .n) (c .before .before .before .before .before .before .before .before .before .args .offset) (c .before .before .before .before .before .before .before .before .before .args .from .now) (c .before .before .before .before .before .before .before .before .before .args .to .now)))
+returns-2 c =
+    let args = c .before .before .before .before .before .before .before .before .before .args in
+    rw (
+      c .before .before .lay .ensures,
+      c .before .before .before .before .piece .ensures,
+      c .before .before .before .before .before .sum .ensures,
+      part-def,
+      writeAt-min,
+    )
+    (sym (onPart-writeAt (args .at) (args .n) (args .offset) (args .from .now) (args .to .now)))
 
 pub place-spec : {M : Type 1} → statement M
 place-spec =

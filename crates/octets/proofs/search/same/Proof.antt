@@ -8,7 +8,9 @@ same-requires : tie.Need-same-requires
 same-requires c κs = search needs
 
 returns : tie.Need-returns
-returns c = same-decided (c .same .result) (c .before .before .before .args .a .now) (c .before .before .before .args .b .now) (c .same .ensures .0) (c .same .ensures .1)
+returns c =
+    let args = c .before .before .before .args in
+    same-decided (c .same .result) (args .a .now) (args .b .now) (c .same .ensures .0) (c .same .ensures .1)
 
 pub same-spec : {M : Type 1} → statement M
 same-spec = tie.close (tie.spec same-requires returns)
