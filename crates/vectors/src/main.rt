@@ -9,7 +9,7 @@ fn main() {
     patterns();
 }
 
-// The two one- and two-block messages of NIST's examples for FIPS 180-4.
+// NIST's examples for FIPS 180-4: a message of one block, and one of two.
 fn published() {
     line(b"abc", b"abc");
     line(
@@ -46,7 +46,7 @@ fn patterns() {
     pattern(&bytes, 65536);
 }
 
-// Byte i becomes (i * 167 + 13) mod 251. The row repeats after 251 bytes, so no two blocks of 64 are alike for long.
+// Byte i becomes (i * 167 + 13) mod 251. 251 is a prime, so two blocks of 64 bytes are alike only 251 blocks apart.
 fn fill(bytes: &mut [u8; 65536]) {
     let mut i = 0;
     while i < 65536 {
