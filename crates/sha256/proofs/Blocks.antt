@@ -9,7 +9,7 @@ use lib.Pow.{mod-pow-add}
 use lib.Seq.{drop-append-le, drop-drop, getD-drop, getD-append-add}
 use Rattle.sha256.specs.Words.{wordAt, wordsAt, bytesOf}
 use Rattle.sha256.specs.Padding.{zeros, lengthField, ending, padded, blocks, block}
-use Rattle.sha256.specs.Laws.{length-padded}
+use Rattle.sha256.specs.Laws.{padding-rule, length-padded}
 use Rattle.sha256.specs.Marked.{marked, closing}
 
 -- ---- words of lists that agree
@@ -104,7 +104,7 @@ module _ (rest : List ℕ) (n : ℕ) where
   marked-words : 64 ≤ front rest n → wordsAt 16 0 (rest ++ ending n) ≡ wordsAt 16 0 (marked rest)
   marked-words h = words-agree 16 0 (rest ++ ending n) (marked rest) (λ p u v. before-length rest n p u (omega arith))
 
--- ---- the four kinds of block
+-- ---- the three kinds of block
 
 pub count-blocks : (m : List ℕ) → (length m + 1 + zeros (length m) + 8) / 64 ≡ blocks m
 unfolding blocks
@@ -121,6 +121,13 @@ module _ (m : List ℕ) (i : ℕ) where
       let t : 64 * i + p < length m = omega arith in
       rw (getD-drop (i * 64) m p 0, getD-drop (64 * i) (m ++ ending (length m)) p 0, e, List·getD-append m (ending (length m)) 0 (64 * i + p) t))
 
+  -- there are at most two blocks behind the whole ones
+  pub near : i < blocks m → i ≤ length m / 64 + 1
+  unfolding blocks
+  near h =
+      let n : length (padded m) ≡ length m + 1 + zeros (length m) + 8 = length-padded m in
+      omega (arith, padding-rule (length m))
+
   -- behind the whole blocks
   behind : (from at : ℕ) → from ≤ length m → 64 * i ≡ from + at → drop (64 * i) (padded m) ≡ drop at (drop from m ++ ending (length m))
   unfolding padded
@@ -130,28 +137,23 @@ module _ (m : List ℕ) (i : ℕ) where
     left : length (drop from m) ≡ length m % 64
     left = rw (length-drop from m) (omega arith)
 
-    -- the last bytes, which leave room for the length
-    pub only : i ≡ length m / 64 → length (drop from m) < 56 → closing 0 (length m) (drop from m) ≡ block i (padded m)
-    unfolding block front zeros
-    only e h =
-        let z : 0 + 56 ≡ front (drop from m) (length m) = omega (arith, left) in
-        let u : 64 * i ≡ from + 0 = omega arith in
-        sym (ap (wordsAt 16 0) (behind from 0 (omega arith) u) ∙ closing-words (drop from m) (length m) 0 z)
-
-    -- the last bytes, which don't
-    pub last-but-one : i ≡ length m / 64 → 56 ≤ length (drop from m) → wordsAt 16 0 (marked (drop from m)) ≡ block i (padded m)
-    unfolding block front zeros
-    last-but-one e h =
-        let z : 64 ≤ front (drop from m) (length m) = omega (arith, left) in
+    -- the last bytes leave no room for the length
+    pub marks : length m / 64 ≤ i → (i - length m / 64) * 64 + 56 ≤ length (drop from m) → wordsAt 16 0 (marked (drop from m)) ≡ block i (padded m)
+    unfolding block front
+    marks e h =
+        let r : length (drop from m) ≡ length m % 64 = left in
+        let z : 64 ≤ front (drop from m) (length m) = omega (arith, padding-rule (length m)) in
         let u : 64 * i ≡ from + 0 = omega arith in
         sym (ap (wordsAt 16 0) (behind from 0 (omega arith) u) ∙ marked-words (drop from m) (length m) z)
 
-    -- and the block behind those
-    pub last : length m / 64 < i → i < blocks m → closing 64 (length m) (drop from m) ≡ block i (padded m)
-    unfolding block blocks front zeros
-    last e h =
-        let n : length (padded m) ≡ length m + 1 + (119 - length m % 64) % 64 + 8 = length-padded m in
-        let r : 56 ≤ length m % 64 = omega arith in
-        let z : 64 + 56 ≡ front (drop from m) (length m) = omega (arith, left) in
-        let u : 64 * i ≡ from + 64 = omega arith in
-        sym (ap (wordsAt 16 0) (behind from 64 (omega arith) u) ∙ closing-words (drop from m) (length m) 64 z)
+    -- or they do, or stand in the block before
+    pub closes : length m / 64 ≤ i → i < blocks m → length (drop from m) < (i - length m / 64) * 64 + 56
+        → closing ((i - length m / 64) * 64) (length m) (drop from m) ≡ block i (padded m)
+    unfolding block blocks front
+    closes e h k =
+        let at : ℕ = (i - length m / 64) * 64 in
+        let r : length (drop from m) ≡ length m % 64 = left in
+        let n : length (padded m) ≡ length m + 1 + zeros (length m) + 8 = length-padded m in
+        let z : (i - length m / 64) * 64 + 56 ≡ front (drop from m) (length m) = omega (arith, padding-rule (length m)) in
+        let u : 64 * i ≡ from + (i - length m / 64) * 64 = omega arith in
+        sym (ap (wordsAt 16 0) (behind from at (omega arith) u) ∙ closing-words (drop from m) (length m) at z)

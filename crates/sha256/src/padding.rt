@@ -6,7 +6,7 @@ ghost use mathlib.Core.List.{_++_};
 ghost use Prim.Native.Nat.{_+_, _*_, _/_, _%_, _^_, _≤_, _<_};
 ghost use lib.ListN.{length, getD, drop};
 ghost use Rattle.sha256.specs.Words.{wordAt, wordsAt};
-ghost use Rattle.sha256.specs.Padding.{zeros, ending, padded, blocks};
+ghost use Rattle.sha256.specs.Padding.{zeros, padded, blocks};
 ghost use Rattle.sha256.specs.Padding.{block as Padding·block};
 ghost use Rattle.sha256.specs.Marked.{marked, closing};
 
@@ -29,15 +29,12 @@ pub fn block(message: &[u8], i: usize) -> [u32; 16]
     }
     let from = whole * 64;
     let rest = &message[from..];
-    if i == whole {
-        if rest.len() < 56 {
-            closing_block(rest, 0, message.len())
-        } else {
-            marked_block(rest)
-        }
-    } else {
-        closing_block(rest, 64, message.len())
+    let at = (i - whole) * 64;
+    if at + 56 <= rest.len() {
+        return marked_block(rest);
     }
+    // called in one place, so that it is compiled into its caller
+    closing_block(rest, at, message.len())
 }
 
 fn word(a: u8, b: u8, c: u8, d: u8) -> u32

@@ -1,10 +1,10 @@
 use mathlib.Core.Path.{refl}
 use Prim.Native.Nat.{_*_, _/_}
 use native.Mathlib.Omega.{arith}
-use borrow.Author.Needs.{needs}
 use lib.ListN.{length}
 use Rattle.sha256.proofs.Rows.{rest-of}
-use Rattle.sha256.proofs.Blocks.{inside, only, last-but-one, last}
+use Rattle.sha256.proofs.Blocks.{inside, near, marks, closes}
+use borrow.Author.Needs.{needs}
 use Rattle.sha256.proofs.padding.block.Statement.{statement}
 use Rattle.sha256.proofs.padding.block.Tie as tie
 
@@ -38,23 +38,23 @@ part-rest-start c = search needs
 part-rest-end : tie.Need-part-rest-end
 part-rest-end c = search needs
 
-closing-block-requires : tie.Need-closing-block-requires
-closing-block-requires c κs = search needs
+mul-at-2 : tie.Need-mul-at-2
+mul-at-2 c = omega (arith, near (c .before .before .before .args .message .now) (c .before .before .before .args .i) (c .before .before .before .pre))
+
+add-if2 : tie.Need-add-if2
+add-if2 c = omega (arith, near (c .before .before .before .args .message .now) (c .before .before .before .args .i) (c .before .before .before .pre))
 
 marked-block-requires : tie.Need-marked-block-requires
 marked-block-requires c κs = search needs
 
-closing-block-requires-2 : tie.Need-closing-block-requires-2
-closing-block-requires-2 c κs = search needs
-
 returns-2 : tie.Need-returns-2
-returns-2 c = rw (c .closing-block .ensures, rest-of (length (c .before .before .before .before .before .before .args .message .now) / 64 * 64) (c .before .before .before .before .before .before .args .message .now)) (only (c .before .before .before .before .before .before .args .message .now) (c .before .before .before .before .before .before .args .i) (length (c .before .before .before .before .before .before .args .message .now) / 64 * 64) refl (c .before .before .if2 .taken) (rw (rest-of (length (c .before .before .before .before .before .before .args .message .now) / 64 * 64) (c .before .before .before .before .before .before .args .message .now)) at (c .before .if3 .taken)))
+returns-2 c = rw (c .marked-block .ensures, rest-of (length (c .before .before .before .before .before .args .message .now) / 64 * 64) (c .before .before .before .before .before .args .message .now)) (marks (c .before .before .before .before .before .args .message .now) (c .before .before .before .before .before .args .i) (length (c .before .before .before .before .before .args .message .now) / 64 * 64) refl (c .before .before .before .if1 .left) (rw (rest-of (length (c .before .before .before .before .before .args .message .now) / 64 * 64) (c .before .before .before .before .before .args .message .now)) at (c .before .if2 .taken)))
+
+closing-block-requires : tie.Need-closing-block-requires
+closing-block-requires c κs = omega (arith, near (c .before .before .before .before .args .message .now) (c .before .before .before .before .args .i) (c .before .before .before .before .pre))
 
 returns-3 : tie.Need-returns-3
-returns-3 c = rw (c .marked-block .ensures, rest-of (length (c .before .before .before .before .before .before .args .message .now) / 64 * 64) (c .before .before .before .before .before .before .args .message .now)) (last-but-one (c .before .before .before .before .before .before .args .message .now) (c .before .before .before .before .before .before .args .i) (length (c .before .before .before .before .before .before .args .message .now) / 64 * 64) refl (c .before .before .if2 .taken) (rw (rest-of (length (c .before .before .before .before .before .before .args .message .now) / 64 * 64) (c .before .before .before .before .before .before .args .message .now)) at (c .before .if3 .left)))
-
-returns-4 : tie.Need-returns-4
-returns-4 c = rw (c .closing-block2 .ensures, rest-of (length (c .before .before .before .before .before .args .message .now) / 64 * 64) (c .before .before .before .before .before .args .message .now)) (last (c .before .before .before .before .before .args .message .now) (c .before .before .before .before .before .args .i) (length (c .before .before .before .before .before .args .message .now) / 64 * 64) refl (omega arith) (c .before .before .before .before .before .pre))
+returns-3 c = rw (c .closing-block .ensures, rest-of (length (c .before .before .before .before .before .args .message .now) / 64 * 64) (c .before .before .before .before .before .args .message .now)) (closes (c .before .before .before .before .before .args .message .now) (c .before .before .before .before .before .args .i) (length (c .before .before .before .before .before .args .message .now) / 64 * 64) refl (c .before .before .before .if1 .left) (c .before .before .before .before .before .pre) (rw (rest-of (length (c .before .before .before .before .before .args .message .now) / 64 * 64) (c .before .before .before .before .before .args .message .now)) at (c .before .if2 .left)))
 
 pub block-spec : {M : Type 1} → statement M
 block-spec =
@@ -70,9 +70,9 @@ block-spec =
     sub-rest
     part-rest-start
     part-rest-end
-    closing-block-requires
+    mul-at-2
+    add-if2
     marked-block-requires
-    closing-block-requires-2
     returns-2
-    returns-3
-    returns-4)
+    closing-block-requires
+    returns-3)
