@@ -1,5 +1,5 @@
--- FIPS 180-4, SHA-256, section by section and in its own names, for messages of whole bytes.
--- The code is proved equal to `digest` of Digest; the modules under Laws say nothing new about SHA-256.
+-- FIPS 180-4, SHA-256, section by section and in its own names, for messages of whole bytes: Words to Digest.
+-- Window and Marked say how the code holds the schedule and reads the last blocks; Laws, that this changes no digest.
 pub mod Words
 pub mod Functions
 pub mod Constants

@@ -1,5 +1,5 @@
 -- The last one or two blocks as the code reads them: from the bytes that the whole blocks leave over.
--- `last-blocks` of Laws says that they are the padded message's.
+-- proofs/Blocks.antt shows that they are the padded message's.
 use mathlib.Core.List.{List, [], _∷_, _++_}
 use Prim.Native.Nat.{ℕ, _*_, _/_, _%_, _^_}
 use lib.ListN.{drop}

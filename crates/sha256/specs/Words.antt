@@ -4,7 +4,7 @@ use Prim.Native.Nat.{ℕ, zero, suc, _+_, _-_, _*_, _/_, _%_, _^_}
 use lib.ListN.{getD}
 use lib.Bits.{bitOr}
 
--- 3.2, 1: addition modulo 2 ^ w
+-- 3.2, 2: addition modulo 2 ^ w
 unfoldable pub add : ℕ → ℕ → ℕ
 add x y = (x + y) % 2 ^ 32
 
