@@ -9,7 +9,7 @@ use lib.Pow.{mod-pow-add}
 use lib.Seq.{drop-append-le, drop-drop, getD-drop, getD-append-add}
 use Rattle.sha256.specs.Words.{wordAt, wordsAt, bytesOf}
 use Rattle.sha256.specs.Padding.{zeros, lengthField, ending, padded, blocks, block}
-use Rattle.sha256.specs.Laws.{padding-rule, length-padded}
+use Rattle.sha256.specs.Laws.{padding-in-bytes, length-padded}
 use Rattle.sha256.specs.Marked.{marked, closing}
 
 -- ---- words of lists that agree
@@ -126,7 +126,7 @@ module _ (m : List ℕ) (i : ℕ) where
   unfolding blocks
   near h =
       let n : length (padded m) ≡ length m + 1 + zeros (length m) + 8 = length-padded m in
-      omega (arith, padding-rule (length m))
+      omega (arith, padding-in-bytes (length m))
 
   -- behind the whole blocks
   behind : (from at : ℕ) → from ≤ length m → 64 * i ≡ from + at → drop (64 * i) (padded m) ≡ drop at (drop from m ++ ending (length m))
@@ -142,7 +142,7 @@ module _ (m : List ℕ) (i : ℕ) where
     unfolding block front
     marks e h =
         let r : length (drop from m) ≡ length m % 64 = left in
-        let z : 64 ≤ front (drop from m) (length m) = omega (arith, padding-rule (length m)) in
+        let z : 64 ≤ front (drop from m) (length m) = omega (arith, padding-in-bytes (length m)) in
         let u : 64 * i ≡ from + 0 = omega arith in
         sym (ap (wordsAt 16 0) (behind from 0 (omega arith) u) ∙ marked-words (drop from m) (length m) z)
 
@@ -154,6 +154,6 @@ module _ (m : List ℕ) (i : ℕ) where
         let at : ℕ = (i - length m / 64) * 64 in
         let r : length (drop from m) ≡ length m % 64 = left in
         let n : length (padded m) ≡ length m + 1 + zeros (length m) + 8 = length-padded m in
-        let z : (i - length m / 64) * 64 + 56 ≡ front (drop from m) (length m) = omega (arith, padding-rule (length m)) in
+        let z : (i - length m / 64) * 64 + 56 ≡ front (drop from m) (length m) = omega (arith, padding-in-bytes (length m)) in
         let u : 64 * i ≡ from + (i - length m / 64) * 64 = omega arith in
         sym (ap (wordsAt 16 0) (behind from at (omega arith) u) ∙ closing-words (drop from m) (length m) at z)

@@ -1,7 +1,7 @@
 -- What follows from the definitions: that padding makes whole blocks, and that sixteen words at a time are enough of the schedule.
 use mathlib.Core.Path.{_≡_, refl, sym, ap, _∙_}
 use mathlib.Core.List.{List, [], _∷_, _++_}
-use Prim.Native.Nat.{ℕ, zero, suc, _+_, _-_, _%_, _≤_, _<_}
+use Prim.Native.Nat.{ℕ, zero, suc, _+_, _-_, _*_, _%_, _≤_, _<_}
 use native.Mathlib.Nat.{add-zero, add-suc, add-comm}
 use native.Mathlib.Numerals.{add-one}
 use native.Mathlib.Omega.{arith}
@@ -15,10 +15,16 @@ use Rattle.sha256.specs.Digest.{joined, digest}
 use Rattle.sha256.specs.Window.{slide, step, steps}
 use Rattle.sha256.specs.declared.rounds.Turn.{Turn}
 
--- 5.1.1: behind the message, the byte 0x80 and the zeros, eight bytes are missing to whole blocks; and no fewer zeros would do
-pub padding-rule : (n : ℕ) → ((n + 1 + zeros n) % 64 ≡ 56) × (zeros n < 64)
+-- 5.1.1, in its own words: of a message of l = 8 n bits, the bits 0 behind the bit 1 (seven of them in the byte 0x80) are k, the smallest
+-- number for which l + 1 + k is 448 modulo 512
+pub padding-rule : (n : ℕ) → ((8 * n + 1 + (7 + 8 * zeros n)) % 512 ≡ 448) × ((k : ℕ) → (8 * n + 1 + k) % 512 ≡ 448 → 7 + 8 * zeros n ≤ k)
 unfolding zeros
-padding-rule n = (omega arith, omega arith)
+padding-rule n = (omega arith, λ k h. omega arith)
+
+-- the same in bytes: eight are left for the length
+pub padding-in-bytes : (n : ℕ) → ((n + 1 + zeros n) % 64 ≡ 56) × (zeros n < 64)
+unfolding zeros
+padding-in-bytes n = (omega arith, omega arith)
 
 pub length-padded : (m : List ℕ) → length (padded m) ≡ length m + 1 + zeros (length m) + 8
 unfolding padded ending lengthField bytesOf

@@ -4,8 +4,8 @@ use Prim.Native.Nat.{ℕ, _+_, _-_, _*_, _/_, _%_, _^_}
 use lib.ListN.{length, drop, replicate}
 use Rattle.sha256.specs.Words.{wordsAt, bytesOf}
 
--- 5.1.1: how many zero bytes stand between the byte that begins with the bit 1 and the length of a message of n bytes:
--- as few as make n + 1 + zeros n leave 56 bytes (448 bits) in the last block. `padding-rule` of Laws says so
+-- 5.1.1: how many zero bytes stand between the byte that begins with the bit 1 and the length of a message of n bytes. `padding-rule`
+-- of Laws says that this is the standard's smallest solution
 unfoldable pub zeros : ℕ → ℕ
 zeros n = (119 - n % 64) % 64
 
