@@ -11,14 +11,14 @@ ghost use Rattle.sha256.specs.Padding.{block as Padding·block};
 ghost use Rattle.sha256.specs.Marked.{marked, closing};
 
 // How many blocks a message of n bytes fills, padded.
-pub fn count(n: usize) -> usize
+pub(crate) fn count(n: usize) -> usize
     ensures { λ r. ⌜ r ≡ (n + 1 + zeros n + 8) / 64 ⌝ }
 {
     if n % 64 < 56 { n / 64 + 1 } else { n / 64 + 2 }
 }
 
 // Block i of the padded message.
-pub fn block(message: &[u8], i: usize) -> [u32; 16]
+pub(crate) fn block(message: &[u8], i: usize) -> [u32; 16]
     requires { ⌜ i < blocks (now message) ⌝ }
     ensures { λ r. ⌜ r ≡ Padding·block i (padded (now (message .entry))) ⌝ }
 {

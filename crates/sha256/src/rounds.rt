@@ -15,7 +15,7 @@ ghost use Rattle.sha256.specs.Compression.{round as Compression·round};
 ghost use Rattle.sha256.specs.Window.{slide as Window·slide, step as Window·step, steps, quarter};
 
 // The working variables before a round, and the sixteen schedule words from that round's on.
-pub struct Turn {
+pub(crate) struct Turn {
     pub state: [u32; 8],
     pub window: [u32; 16],
 }
@@ -86,7 +86,7 @@ fn step(x: Turn, k: u32) -> Turn
 }
 
 // Rounds 0 to 15.
-pub fn first_quarter(x0: Turn) -> Turn
+pub(crate) fn first_quarter(x0: Turn) -> Turn
     ensures { λ r. ⌜ r ≡ steps (quarter 0) x0 ⌝ }
 {
     let x1 = step(x0, 0x428a_2f98);
@@ -108,7 +108,7 @@ pub fn first_quarter(x0: Turn) -> Turn
 }
 
 // Rounds 16 to 31.
-pub fn second_quarter(x0: Turn) -> Turn
+pub(crate) fn second_quarter(x0: Turn) -> Turn
     ensures { λ r. ⌜ r ≡ steps (quarter 1) x0 ⌝ }
 {
     let x1 = step(x0, 0xe49b_69c1);
@@ -130,7 +130,7 @@ pub fn second_quarter(x0: Turn) -> Turn
 }
 
 // Rounds 32 to 47.
-pub fn third_quarter(x0: Turn) -> Turn
+pub(crate) fn third_quarter(x0: Turn) -> Turn
     ensures { λ r. ⌜ r ≡ steps (quarter 2) x0 ⌝ }
 {
     let x1 = step(x0, 0x27b7_0a85);
@@ -152,7 +152,7 @@ pub fn third_quarter(x0: Turn) -> Turn
 }
 
 // Rounds 48 to 63.
-pub fn fourth_quarter(x0: Turn) -> Turn
+pub(crate) fn fourth_quarter(x0: Turn) -> Turn
     ensures { λ r. ⌜ r ≡ steps (quarter 3) x0 ⌝ }
 {
     let x1 = step(x0, 0x19a4_c116);
@@ -174,7 +174,7 @@ pub fn fourth_quarter(x0: Turn) -> Turn
 }
 
 // Word by word, v added to h.
-pub fn sums(v: [u32; 8], h: [u32; 8]) -> [u32; 8]
+pub(crate) fn sums(v: [u32; 8], h: [u32; 8]) -> [u32; 8]
     ensures { λ r. ⌜ r ≡ Compression·sums v h ⌝ }
 {
     [

@@ -17,40 +17,40 @@ fn rotate(x: u32, n: u32) -> u32
 }
 
 // Bit by bit, y where x has 1 and z where it has 0.
-pub fn choose(x: u32, y: u32, z: u32) -> u32
+pub(crate) fn choose(x: u32, y: u32, z: u32) -> u32
     ensures { λ r. ⌜ r ≡ Ch x y z ⌝ }
 {
     ((y ^ z) & x) ^ z
 }
 
 // Bit by bit, what at least two of the three have.
-pub fn majority(x: u32, y: u32, z: u32) -> u32
+pub(crate) fn majority(x: u32, y: u32, z: u32) -> u32
     ensures { λ r. ⌜ r ≡ Maj x y z ⌝ }
 {
     ((x ^ y) & (y ^ z)) ^ y
 }
 
 // The capital sigmas, on the working variables. 2, 13 and 22 are 2, 2 + 11 and 2 + 11 + 9.
-pub fn sigma_a(x: u32) -> u32
+pub(crate) fn sigma_a(x: u32) -> u32
     ensures { λ r. ⌜ r ≡ Σ0 x ⌝ }
 {
     rotate(rotate(rotate(x, 9) ^ x, 11) ^ x, 2)
 }
 
-pub fn sigma_e(x: u32) -> u32
+pub(crate) fn sigma_e(x: u32) -> u32
     ensures { λ r. ⌜ r ≡ Σ1 x ⌝ }
 {
     rotate(rotate(rotate(x, 14) ^ x, 5) ^ x, 6)
 }
 
 // The small sigmas, on the schedule's words.
-pub fn sigma_0(x: u32) -> u32
+pub(crate) fn sigma_0(x: u32) -> u32
     ensures { λ r. ⌜ r ≡ σ0 x ⌝ }
 {
     rotate(rotate(x, 11) ^ x, 7) ^ (x >> 3)
 }
 
-pub fn sigma_1(x: u32) -> u32
+pub(crate) fn sigma_1(x: u32) -> u32
     ensures { λ r. ⌜ r ≡ σ1 x ⌝ }
 {
     rotate(rotate(x, 2) ^ x, 17) ^ (x >> 10)
@@ -69,7 +69,7 @@ fn bytes_of(x: u32) -> [u8; 4]
 }
 
 // The eight words as thirty-two bytes.
-pub fn joined(v: [u32; 8]) -> [u8; 32]
+pub(crate) fn joined(v: [u32; 8]) -> [u8; 32]
     ensures { λ r. ⌜ r ≡ Digest·joined v ⌝ }
 {
     let a = bytes_of(v[0]);
