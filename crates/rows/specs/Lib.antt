@@ -1,0 +1,2 @@
+-- Rows of records, in document 01's words.
+pub mod Records
