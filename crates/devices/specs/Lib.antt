@@ -1,3 +1,5 @@
 -- The two devices of a partition, in document 01's words.
 pub mod Queue
 pub mod Screen
+pub mod QueueLaws
+pub mod ScreenLaws

@@ -6,6 +6,7 @@ use lib.Dec.{ltb}
 use lib.ListN.{length, take, drop, replicate}
 use Rattle.octets.specs.Lists.{over, writeAt}
 use Rattle.devices.specs.declared.keyboard.Keyboard.{Keyboard}
+use Rattle.devices.specs.declared.keyboard.Taken.{Taken}
 
 -- a queue with no key
 unfoldable pub noKeys : Keyboard
@@ -30,3 +31,19 @@ takes request room k = min (min request room) (held k)
 -- the queue without its n oldest keys: the others move to the front, what falls free is cleared
 unfoldable pub queueDrop : ℕ → Keyboard → Keyboard
 queueDrop n k = record { keys = drop n (k .keys) ++ replicate n 0; held = held k - n }
+
+-- what taking keys out gives: how many were taken, the queue and the lent part afterwards
+pub record Took : Type 0 where
+  pub count : ℕ
+  pub keyboard : Keyboard
+  pub buffer : List ℕ
+
+abbrev pub took : Taken → List ℕ → Took
+took t buffer = record { count = t .count; keyboard = t .keyboard; buffer = buffer }
+
+-- the n oldest keys go over the start of the lent part, whose bytes behind them stay
+unfoldable pub takeOut : ℕ → Keyboard → List ℕ → Took
+takeOut n k buffer = record { count = n; keyboard = queueDrop n k; buffer = over (take n (queue k)) buffer }
+
+unfoldable pub queueTake : ℕ → Keyboard → List ℕ → Took
+queueTake request k buffer = takeOut (takes request (length buffer) k) k buffer

@@ -3,8 +3,9 @@
 use mathlib.Core.Bool.{Bool, cond, _&&_}
 use mathlib.Core.List.{List, [], _∷_, _++_}
 use Prim.Native.Nat.{ℕ, _+_, _-_, _*_, _/_, _%_, min}
-use lib.Dec.{eqb, leb, ltb}
-use lib.ListN.{length, drop, replicate, set}
+use lib.Dec.{eqb, ltb}
+use lib.ListN.{length, take, drop, replicate, set}
+use Rattle.octets.specs.Lists.{part, over, writeAt}
 
 -- the cells and the cursor's place
 pub record Screen : Type 0 where
@@ -68,3 +69,25 @@ onScreen f s = cond (isScreen s) (f s) s
 -- "Random read and write move min(request, 2,000 − offset) cells": `size` cells there are, and the lent part has `room`
 unfoldable pub moved : ℕ → ℕ → ℕ → ℕ → ℕ
 moved size offset request room = min (min request (size - offset)) room
+
+-- how many cells were moved, and what the lent part or the screen they went to holds afterwards
+pub record Transfer : Type 0 where
+  pub count : ℕ
+  pub after : List ℕ
+
+abbrev pub transfer : ℕ → List ℕ → Transfer
+transfer count after = record { count = count; after = after }
+
+-- n cells from `offset` on go over the start of the lent part, whose bytes behind them stay
+unfoldable pub readOut : ℕ → ℕ → List ℕ → List ℕ → Transfer
+readOut n offset cells buffer = transfer n (over (part offset n cells) buffer)
+
+unfoldable pub randomRead : ℕ → ℕ → List ℕ → List ℕ → Transfer
+randomRead offset request cells buffer = readOut (moved (length cells) offset request (length buffer)) offset cells buffer
+
+-- the first n bytes of the lent part go over the cells from `offset` on
+unfoldable pub writeOut : ℕ → ℕ → List ℕ → List ℕ → Transfer
+writeOut n offset bytes cells = transfer n (writeAt offset (take n bytes) cells)
+
+unfoldable pub randomWrite : ℕ → ℕ → List ℕ → List ℕ → Transfer
+randomWrite offset request bytes cells = writeOut (moved (length cells) offset request (length bytes)) offset bytes cells
