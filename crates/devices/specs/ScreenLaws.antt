@@ -1,5 +1,5 @@
 -- Laws of the screen: putting bytes keeps it a screen, and putting a run is putting its parts one after the other.
-use mathlib.Core.Bool.{Bool, true, false, cond, _&&_}
+use mathlib.Core.Bool.{Bool, true, false, _&&_}
 use mathlib.Core.List.{List, [], _∷_, _++_}
 use mathlib.Core.Path.{_≡_, refl, sym, _∙_}
 use Prim.Native.Nat.{ℕ, _+_, _-_, _/_, _%_, _≤_, _<_}
@@ -9,7 +9,8 @@ use lib.Dec.{eqb, ltb}
 use lib.ListN.{length, drop, set, getD, length-append, length-drop, length-replicate, length-set}
 use lib.Seq.{drop-cons}
 use borrow.Author.Tests.{lt-ltb, le-ltb, eq-eqb, ne-eqb, ltb-true, eqb-true}
-use Rattle.devices.specs.Screen.{Screen, screen, row, column, scrolled, nextRow, advance, back, placed, put, putAll, isScreen, onScreen}
+use Rattle.devices.specs.Choice.{by-cond}
+use Rattle.devices.specs.Screen.{Screen, screen, blanks, row, column, scrolled, nextRow, advance, back, placed, put, putAll, isScreen, onScreen}
 
 -- ---- what is a screen
 
@@ -52,11 +53,6 @@ onScreen-away f s e h = rw (eq-eqb _ _ e, le-ltb _ _ h)
 
 -- ---- what is put on a screen leaves a screen
 
--- a fact of either choice is a fact of the choice
-by-cond : {A : Type 0} (P : A → Type 0) (t : Bool) {x y : A} → (t ≡ true → P x) → (t ≡ false → P y) → P (cond t x y)
-by-cond P true f g = f refl
-by-cond P false f g = g refl
-
 pub length-scrolled : (cells : List ℕ) → length cells ≡ 2000 → length (scrolled cells) ≡ 2000
 unfolding scrolled
 length-scrolled cells e = rw (length-append, length-drop, length-replicate {A = ℕ} 80 32, e)
@@ -97,7 +93,18 @@ unfolding putAll
 putAll-screen [] s h = h
 putAll-screen (byte ∷ bytes) s h = putAll-screen bytes (put byte s) (put-screen byte s h)
 
--- the two halves of it, as the terminal uses them
+-- the same, of the test
+pub isScreen-put : (byte : ℕ) (s : Screen) → isScreen s ≡ true → isScreen (put byte s) ≡ true
+isScreen-put byte s e = isScreen-true (put byte s) (put-screen byte s (isScreen-facts s e))
+
+pub isScreen-putAll : (bytes : List ℕ) (s : Screen) → isScreen s ≡ true → isScreen (putAll bytes s) ≡ true
+isScreen-putAll bytes s e = isScreen-true (putAll bytes s) (putAll-screen bytes s (isScreen-facts s e))
+
+-- a blanked screen with the cursor at its start is one
+pub blank-screen : IsScreen (screen (blanks 2000) 0)
+blank-screen = (length-replicate {A = ℕ} 2000 32, omega arith)
+
+-- the two halves of it
 pub length-putAll : (bytes : List ℕ) (s : Screen) → IsScreen s → length (putAll bytes s .cells) ≡ 2000
 length-putAll bytes s h = putAll-screen bytes s h .0
 
@@ -132,6 +139,21 @@ onScreen-putAll a b s = go (isScreen s) refl
         let h : IsScreen s = isScreen-facts s e in
         rw (onScreen-is (putAll (a ++ b)) s h, onScreen-is (putAll a) s h, onScreen-is (putAll b) (putAll a s) (putAll-screen a s h)) (putAll-append a b s)
     go false e = rw (onScreen-not (putAll (a ++ b)) s e, onScreen-not (putAll a) s e, onScreen-not (putAll b) s e)
+
+-- one byte is a run of one
+pub onScreen-put : (byte : ℕ) (s : Screen) → onScreen (put byte) s ≡ onScreen (putAll (byte ∷ [])) s
+unfolding onScreen putAll
+onScreen-put byte s = refl
+
+-- whatever is given, the number of cells stays
+pub length-onScreen : (bytes : List ℕ) (s : Screen) → length (onScreen (putAll bytes) s .cells) ≡ length (s .cells)
+length-onScreen bytes s = go (isScreen s) refl
+  where
+    go : (t : Bool) → isScreen s ≡ t → length (onScreen (putAll bytes) s .cells) ≡ length (s .cells)
+    go true e =
+        let h : IsScreen s = isScreen-facts s e in
+        rw (onScreen-is (putAll bytes) s h) (length-putAll bytes s h ∙ sym (h .0))
+    go false e = rw (onScreen-not (putAll bytes) s e)
 
 -- what is a screen stays one, what is none stays none
 pub isScreen-onScreen : (bytes : List ℕ) (s : Screen) → isScreen (onScreen (putAll bytes) s) ≡ isScreen s
