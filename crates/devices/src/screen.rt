@@ -80,7 +80,7 @@ fn put_one(cells: &mut [u8], cursor: usize, byte: u8) -> usize
     next_row(cells, cursor)
 }
 
-// Puts one byte: 10, 13 and 8 move the cursor, another is placed before it.
+// Puts one byte: 10, 13 and 8 move the cursor, another is placed where it stands and it advances.
 pub fn put(cells: &mut [u8], cursor: usize, byte: u8) -> usize
     ensures { λ r. ⌜ screen (now (cells .exit)) r ≡ onScreen (Screen·put byte) (screen (now (cells .entry)) cursor) ⌝ }
 {
