@@ -30,14 +30,26 @@ returns-2 c =
 
 returns-3 : tie.Need-returns-3
 unfolding put back column
-returns-3 c = rw (ne-eqb _ _ (c .before .before .before .if1 .left), ne-eqb _ _ (c .before .before .if2 .left), eq-eqb _ _ (c .before .if3 .taken), eq-eqb _ _ (c .if4 .taken))
+returns-3 c =
+    rw (
+      ne-eqb _ _ (c .before .before .before .if1 .left),
+      ne-eqb _ _ (c .before .before .if2 .left),
+      eq-eqb _ _ (c .before .if3 .taken),
+      eq-eqb _ _ (c .if4 .taken),
+    )
 
 sub-result-2 : tie.Need-sub-result-2
 sub-result-2 c = search needs
 
 returns-4 : tie.Need-returns-4
 unfolding put back column
-returns-4 c = rw (ne-eqb _ _ (c .before .before .before .if1 .left), ne-eqb _ _ (c .before .before .if2 .left), eq-eqb _ _ (c .before .if3 .taken), ne-eqb _ _ (c .if4 .left))
+returns-4 c =
+    rw (
+      ne-eqb _ _ (c .before .before .before .if1 .left),
+      ne-eqb _ _ (c .before .before .if2 .left),
+      eq-eqb _ _ (c .before .if3 .taken),
+      ne-eqb _ _ (c .if4 .left),
+    )
 
 slice-write-cells : tie.Need-slice-write-cells
 slice-write-cells c = search needs
@@ -50,7 +62,13 @@ same-length-2 c = search needs
 
 returns-5 : tie.Need-returns-5
 unfolding put placed advance column
-returns-5 c = rw (ne-eqb _ _ (c .before .before .before .if1 .left), ne-eqb _ _ (c .before .before .if2 .left), ne-eqb _ _ (c .before .if3 .left), lt-ltb _ _ (c .if5 .taken))
+returns-5 c =
+    rw (
+      ne-eqb _ _ (c .before .before .before .if1 .left),
+      ne-eqb _ _ (c .before .before .if2 .left),
+      ne-eqb _ _ (c .before .if3 .left),
+      lt-ltb _ _ (c .if5 .taken),
+    )
 
 next-row-requires-2 : tie.Need-next-row-requires-2
 next-row-requires-2 c κs = search needs
@@ -60,7 +78,13 @@ same-length-3 c = c .before .before .next-row2 .kept .0 ∙ simp length-set
 
 returns-6 : tie.Need-returns-6
 unfolding put placed advance column
-returns-6 c = rw (ne-eqb _ _ (c .before .before .before .before .before .before .before .if1 .left), ne-eqb _ _ (c .before .before .before .before .before .before .if2 .left), ne-eqb _ _ (c .before .before .before .before .before .if3 .left), le-ltb _ _ (c .before .before .before .before .if5 .left)) (c .before .before .next-row2 .ensures)
+returns-6 c =
+    rw (
+      ne-eqb _ _ (c .before .before .before .before .before .before .before .if1 .left),
+      ne-eqb _ _ (c .before .before .before .before .before .before .if2 .left),
+      ne-eqb _ _ (c .before .before .before .before .before .if3 .left),
+      le-ltb _ _ (c .before .before .before .before .if5 .left),
+    ) (c .before .before .next-row2 .ensures)
 
 pub put-one-spec : {M : Type 1} → statement M
 put-one-spec =

@@ -44,7 +44,11 @@ same-length : tie.Need-same-length
 same-length c = search needs
 
 returns : tie.Need-returns
-returns c = scroll-of (c .before .before .before .before .before .before .before .before .before .args .cells .now) (c .before .before .before .before .before .before .raise .last .0) (c .before .before .blank .last .0) (c .before .before .before .before .before .before .before .before .before .pre) (c .before .before .before .before .before .before .raise .ensures) (c .before .before .blank .ensures)
+returns c =
+    let raise = c .before .before .before .before .before .before .raise in
+    let blank = c .before .before .blank in
+    let cells = c .before .before .before .before .before .before .before .before .before .args .cells .now in
+    scroll-of cells (raise .last .0) (blank .last .0) (c .before .before .before .before .before .before .before .before .before .pre) (raise .ensures) (blank .ensures)
 
 pub scroll-spec : {M : Type 1} → statement M
 scroll-spec =

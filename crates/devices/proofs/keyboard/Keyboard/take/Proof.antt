@@ -72,8 +72,15 @@ returns : tie.Need-returns
 returns c =
     let args = c .before .before .before .before .before .before .before .before .before .before .before .before .before .before .before .before .args in
     let size : length (args .self .keys) ≡ 64 = search needs in
-    out (args .request) (args .self) (args .buffer .now) (c .before .lay2 .last .1 .0) (c .before .before .before .before .before .before .before .lay .last .1 .0) (c .before .before .before .before .before .before .before .before .before .before .before .before .before .before .least .result) (c .before .before .before .before .before .before .before .before .before .before .before .before .least3 .result) size
-    (c .before .before .before .before .before .before .before .before .before .before .before .before .before .before .least .ensures) (rw (c .before .before .before .before .before .before .before .before .before .before .before .before .before .least2 .ensures) at (c .before .before .before .before .before .before .before .before .before .before .before .before .least3 .ensures)) (rw (c .before .before .before .piece2 .ensures) at (c .before .lay2 .ensures)) (rw (c .before .before .before .before .before .before .before .before .before .piece .ensures) at (c .before .before .before .before .before .before .before .lay .ensures))
+    let held = c .before .before .before .before .before .before .before .before .before .before .before .before .before .before .least in
+    let count = c .before .before .before .before .before .before .before .before .before .before .before .before .least3 in
+    let taken = c .before .before .before .before .before .before .before .lay in
+    let rest = c .before .lay2 in
+    out (args .request) (args .self) (args .buffer .now) (rest .last .1 .0) (taken .last .1 .0) (held .result) (count .result) size
+    (held .ensures)
+    (rw (c .before .before .before .before .before .before .before .before .before .before .before .before .before .least2 .ensures) at (count .ensures))
+    (rw (c .before .before .before .piece2 .ensures) at (rest .ensures))
+    (rw (c .before .before .before .before .before .before .before .before .before .piece .ensures) at (taken .ensures))
 
 pub take-spec : {M : Type 1} → statement M
 take-spec =
