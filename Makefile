@@ -1,4 +1,4 @@
-# run: prove, build and run the vectors program    test: the gate    bench: figures beside C and OpenSSL    fmt: lay out every file
+# run: prove, build and run the vectors program    test: the gate    bench: figures beside C, OpenSSL and memmove    fmt: lay out every file
 .PHONY: run test bench fmt rt-is-there
 
 run: rt-is-there
@@ -11,7 +11,8 @@ test:
 	@.ci/run
 
 bench: rt-is-there
-	@bench/run
+	@bench/sha256
+	@bench/devices
 
 fmt: rt-is-there
 	@rt fmt
