@@ -1,11 +1,11 @@
 -- What a step at a place says of the walk from there on.
 use mathlib.Core.Bool.{true, false}
 use mathlib.Core.List.{List, [], _∷_}
-use mathlib.Core.Path.{_≡_, refl, sym, _∙_}
-use Prim.Native.Nat.{ℕ, _+_, _-_, _≤_, _<_}
+use mathlib.Core.Path.{_≡_, refl, sym, ap, _∙_}
+use Prim.Native.Nat.{ℕ, _+_, _-_, _≤_, _<_, min}
 use native.Mathlib.Nat.{add-zero}
 use native.Mathlib.Omega.{arith}
-use borrow.Author.Tests.{eq-eqb, ne-eqb, leb-true, leb-false}
+use borrow.Author.Tests.{eqb-true, eq-eqb, ne-eqb, leb-true, leb-false}
 use lib.Dec.{leb}
 use lib.ListN.{length, take, drop, length-take, length-drop, drop-of-length-le}
 use lib.Seq.{take-all, take-take, drop-drop}
@@ -16,7 +16,7 @@ use Rattle.rows.specs.declared.Cursor.{Cursor}
 use Rattle.rows.specs.declared.Step.the-variants.{Record, Cut, End}
 use Rattle.rows.specs.Records.{payloadLength, kind, size, chunks, whole}
 use Rattle.rows.specs.WalkLaws.{payloadLength-same, kind-same, six-size, chunks-none, chunks-on}
-use Rattle.rows.specs.LikeLaws.{by-test, size-first, chunks-only}
+use Rattle.rows.specs.LikeLaws.{by-test, size-first, chunks-first, chunks-only}
 use Rattle.rows.specs.Steps.{stepOf, stepAt}
 
 -- ---- what the header at a place says
@@ -174,3 +174,28 @@ step-ended row at e = places row at at-end at-cut at-whole
 
     at-whole : at + 6 + little (part at 4 row) ≤ length row → chunks (drop at row) ≡ []
     at-whole h = clash (cc (step-record row at (little (part at 4 row)) refl h))
+
+-- ---- the walk at a place
+
+-- a whole record that the walk meets at a place is that part of the row, and the walk goes on behind it
+pub record Met (row : List ℕ) (at : ℕ) (c : List ℕ) (cs : List (List ℕ)) : Type 0 where
+  pub is-part : c ≡ part at (length c) row
+  pub goes-on : cs ≡ chunks (drop (at + length c) row)
+  pub has-header : 6 ≤ length c
+  pub inside : at + length c ≤ length row
+
+pub walk-met : (row : List ℕ) (at : ℕ) (c : List ℕ) (cs : List (List ℕ)) → chunks (drop at row) ≡ c ∷ cs → whole c ≡ true → Met row at c cs
+unfolding whole
+walk-met row at c cs e w =
+    let l = drop at row in
+    let first = chunks-first (drop at row) c cs e in
+    let same : size c ≡ size (drop at row) = rw (first .0) (size-first (drop at row)) in
+    let long : length c ≡ size (drop at row) = eqb-true (length c) (size c) w ∙ same in
+    let room : length c ≡ min (size (drop at row)) (length row - at) = ap length (first .0) ∙ rw (length-take, length-drop) in
+    let six = six-size (drop at row) in
+    record {
+      is-part = first .0 ∙ rw (← long) (sym (part-def at (length c) row));
+      goes-on = first .1 ∙ rw (← long) (ap chunks (drop-drop (length c) at row));
+      has-header = omega arith;
+      inside = omega arith;
+    }
