@@ -1,5 +1,5 @@
 -- What a step at a place says of the walk from there on.
-use mathlib.Core.Bool.{true, false}
+use mathlib.Core.Bool.{true, false, false≢true}
 use mathlib.Core.List.{List, [], _∷_}
 use mathlib.Core.Path.{_≡_, refl, sym, ap, _∙_}
 use Prim.Native.Nat.{ℕ, _+_, _-_, _≤_, _<_, min}
@@ -125,7 +125,7 @@ places {P} row at f g h =
     (λ t. by-test (leb (at + 6 + little (part at 4 row)) (length row)) (λ u. h (leb-true (at + 6 + little (part at 4 row)) (length row) u))
     (λ u. g (leb-false (length row) at t) (leb-false (at + 6 + little (part at 4 row)) (length row) u)))
 
-clash : {P : Type 0} → _≡_ {A = ℕ} 0 1 → P
+pub clash : {P : Type 0} → _≡_ {A = ℕ} 0 1 → P
 clash e = absurd (omega arith)
 
 pub step-passed : (row : List ℕ) (at k start n : ℕ) (next : Cursor) → stepAt row at ≡ Record k start n next → Passed row at k start n next
@@ -199,3 +199,17 @@ walk-met row at c cs e w =
       has-header = omega arith;
       inside = omega arith;
     }
+
+-- a record that is not whole is the last one
+pub walk-last : (l c : List ℕ) (cs : List (List ℕ)) → chunks l ≡ c ∷ cs → whole c ≡ false → cs ≡ []
+walk-last l c cs e w = by-test (leb (size l) (length l)) enough short
+  where
+    enough : leb (size l) (length l) ≡ true → cs ≡ []
+    enough t = absurd (false≢true (sym w ∙ ap whole (chunks-first l c cs e .0) ∙ first-whole l (leb-true (size l) (length l) t)))
+
+    short : leb (size l) (length l) ≡ false → cs ≡ []
+    short t =
+        let h = leb-false (size l) (length l) t in
+        let k : length l ≤ size l = omega arith in
+        let nothing : drop (size l) l ≡ [] = drop-of-length-le l k in
+        chunks-first l c cs e .1 ∙ rw (nothing, chunks-none)
