@@ -5,3 +5,6 @@ pub mod Items
 pub mod ItemLaws
 pub mod EntryLaws
 pub mod PlaceLaws
+pub mod TitleLaws
+pub mod SpotLaws
+pub mod ChangeLaws

@@ -13,7 +13,7 @@ use Rattle.rows.specs.Records.{chunks, join}
 use Rattle.rows.specs.WalkLaws.{join-chunks}
 use Rattle.rows.specs.LikeLaws.{by-test}
 use Rattle.rows.specs.ChangeLaws.{onPart-left, onPart-right}
-use Rattle.image.specs.declared.Found.the-variants.{At}
+use Rattle.image.specs.declared.Found.the-variants.{At, Nothing}
 use Rattle.image.specs.Files.{path, contentsAt, contentsLength, goodRecord, named, spotIn, fileIn, onFileIn, holds}
 use Rattle.image.specs.Image.{spot, file, onFile, foundPart, onFound, wasFound}
 use Rattle.image.specs.ItemLaws.{good-room}
@@ -38,6 +38,10 @@ unfolding contentsLength
 contents-part c = part-def (contentsAt c) (length c - contentsAt c) c ∙ take-all (length c - contentsAt c) (drop (contentsAt c) c) (rw length-drop (omega arith))
 
 -- ---- the first file with a path
+
+pub spot-none : (p : List ℕ) (at : ℕ) → spotIn p at [] ≡ Nothing
+unfolding spotIn
+spot-none p at = refl
 
 module _ (p : List ℕ) (at : ℕ) (c : List ℕ) (cs : List (List ℕ)) where
   pub spot-hit : named p c ≡ true → spotIn p at (c ∷ cs) ≡ At (at + contentsAt c) (contentsLength c)
