@@ -2,11 +2,11 @@
 use mathlib.Core.Bool.{Bool, true, false, cond, not, _&&_}
 use mathlib.Core.List.{List, [], _∷_}
 use Prim.Native.Nat.{ℕ, _+_, _-_}
-use lib.Dec.{eqb, leb}
+use lib.Dec.{eqb, leb, ltb}
 use lib.ListN.{length, drop, getD}
 use Rattle.octets.specs.Lists.{part, onPart}
 use Rattle.octets.specs.Same.{sameBytes}
-use Rattle.rows.specs.Records.{kind, whole}
+use Rattle.rows.specs.Records.{payloadLength, kind, whole}
 use Rattle.image.specs.declared.Found.{Found}
 use Rattle.image.specs.declared.Found.the-variants.{At, Nothing}
 
@@ -25,9 +25,13 @@ contentsAt c = 7 + pathLength c
 unfoldable pub contentsLength : List ℕ → ℕ
 contentsLength c = length c - contentsAt c
 
--- "A cut record or path, another kind, a bad path length .. makes the image bad"
+-- "A cut record or path, another kind, a bad path length .. makes the image bad": what a good record's kind, its path's length (2 to 63)
+-- and its payload's length are; the path ends inside the payload
+unfoldable pub goodNumbers : ℕ → ℕ → ℕ → Bool
+goodNumbers k title count = eqb k 1 && (leb 2 title && (leb title 63 && ltb title count))
+
 unfoldable pub goodRecord : List ℕ → Bool
-goodRecord c = whole c && (eqb (kind c) 1 && (leb 2 (pathLength c) && (leb (pathLength c) 63 && leb (contentsAt c) (length c))))
+goodRecord c = whole c && goodNumbers (kind c) (pathLength c) (payloadLength c)
 
 -- the record is a file with that path
 unfoldable pub named : List ℕ → List ℕ → Bool

@@ -1,11 +1,11 @@
 -- What an item at a place of an image says of the walk from there on.
 use mathlib.Core.Bool.{true, false, _&&_, and-eq-true-iff}
 use mathlib.Core.List.{List}
-use mathlib.Core.Path.{_≡_, sym, ap, _∙_}
-use Prim.Native.Nat.{ℕ, _+_, _-_, _≤_}
+use mathlib.Core.Path.{_≡_, ap, _∙_}
+use Prim.Native.Nat.{_<_, ℕ, _+_, _-_, _≤_}
 use native.Mathlib.Nat.{add-sub-cancel-left}
 use native.Mathlib.Omega.{arith}
-use borrow.Author.Tests.{ltb-true, leb-true, leb-false, lt-ltb, le-ltb}
+use borrow.Author.Tests.{eqb-true, ltb-true}
 use lib.Dec.{eqb, leb, ltb}
 use lib.ListN.{length, drop, getD}
 use lib.Seq.{getD-drop}
@@ -13,28 +13,35 @@ use Rattle.octets.specs.Lists.{part}
 use Rattle.octets.specs.PartLaws.{drop-part, length-part-in}
 use Rattle.rows.specs.declared.Cursor.{Cursor}
 use Rattle.rows.specs.declared.Step.the-variants as step
-use Rattle.rows.specs.Records.{kind, whole}
-use Rattle.rows.specs.LikeLaws.{by-test}
+use Rattle.rows.specs.Records.{size, payloadLength, kind, whole}
 use Rattle.rows.specs.Steps.{stepAt}
 use Rattle.rows.specs.StepLaws.{Passed, step-stopped, step-ended}
 use Rattle.image.specs.declared.Item.the-variants.{File, Other, Cut, End}
-use Rattle.image.specs.Files.{pathLength, contentsAt, contentsLength, goodRecord}
+use Rattle.image.specs.Files.{goodNumbers, pathLength, contentsAt, contentsLength, goodRecord}
 use Rattle.image.specs.Items.{itemOf, itemAt}
 
 -- ---- one record
 
+-- the path ends inside the payload
+pub numbers-room : (k title count : ℕ) → goodNumbers k title count ≡ true → title < count
+unfolding goodNumbers
+numbers-room k title count g =
+    let a = and-eq-true-iff (eqb k 1) (leb 2 title && (leb title 63 && ltb title count)) .0 g .1 in
+    let b = and-eq-true-iff (leb 2 title) (leb title 63 && ltb title count) .0 a .1 in
+    ltb-true title count (and-eq-true-iff (leb title 63) (ltb title count) .0 b .1)
+
 pub good-whole : (c : List ℕ) → goodRecord c ≡ true → whole c ≡ true
 unfolding goodRecord
-good-whole c g = and-eq-true-iff (whole c) (eqb (kind c) 1 && (leb 2 (pathLength c) && (leb (pathLength c) 63 && leb (contentsAt c) (length c)))) .0 g .0
+good-whole c g = and-eq-true-iff (whole c) (goodNumbers (kind c) (pathLength c) (payloadLength c)) .0 g .0
 
 -- the path is not cut
 pub good-room : (c : List ℕ) → goodRecord c ≡ true → contentsAt c ≤ length c
-unfolding goodRecord
+unfolding goodRecord contentsAt whole size
 good-room c g =
-    let a = and-eq-true-iff (whole c) (eqb (kind c) 1 && (leb 2 (pathLength c) && (leb (pathLength c) 63 && leb (contentsAt c) (length c)))) .0 g .1 in
-    let b = and-eq-true-iff (eqb (kind c) 1) (leb 2 (pathLength c) && (leb (pathLength c) 63 && leb (contentsAt c) (length c))) .0 a .1 in
-    let d = and-eq-true-iff (leb 2 (pathLength c)) (leb (pathLength c) 63 && leb (contentsAt c) (length c)) .0 b .1 in
-    leb-true (contentsAt c) (length c) (and-eq-true-iff (leb (pathLength c) 63) (leb (contentsAt c) (length c)) .0 d .1)
+    let both = and-eq-true-iff (whole c) (goodNumbers (kind c) (pathLength c) (payloadLength c)) .0 g in
+    let long = eqb-true (length c) (6 + payloadLength c) (both .0) in
+    let inner = numbers-room (kind c) (pathLength c) (payloadLength c) (both .1) in
+    omega arith
 
 pub cut-bad : (c : List ℕ) → whole c ≡ false → goodRecord c ≡ false
 unfolding goodRecord
@@ -53,20 +60,15 @@ module _ (image : List ℕ) (at k start n : ℕ) (next : Cursor) (got : Passed i
   long : length (part at (6 + n) image) ≡ 6 + n
   long = let h = got .inside in length-part-in at (6 + n) image (omega arith)
 
-  -- the record is good by the tests on its kind, its path's length and its payload's length
-  tested : (t : ℕ) → t ≡ getD (part start n image) 0 0 → goodRecord (part at (6 + n) image) ≡ (eqb k 1 && (leb 2 t && (leb t 63 && ltb t n)))
-  unfolding goodRecord contentsAt
-  tested t e = rw (got .whole-one, got .of-kind, ← titled, ← e, long) (rw (room t n))
-    where
-      room : (a b : ℕ) → leb (7 + a) (6 + b) ≡ ltb a b
-      room a b =
-          by-test (leb (7 + a) (6 + b)) (λ u. u ∙ sym (lt-ltb a b (let h = leb-true (7 + a) (6 + b) u in omega arith)))
-          (λ u. u ∙ sym (le-ltb a b (let h = leb-false (7 + a) (6 + b) u in omega arith)))
+  -- the record is good by the numbers that were read
+  tested : (t : ℕ) → t ≡ getD (part start n image) 0 0 → goodRecord (part at (6 + n) image) ≡ goodNumbers k t n
+  unfolding goodRecord
+  tested t e = rw (got .whole-one, got .of-kind, ← titled, ← e, got .counts)
 
   onward : next ≡ record { at = at + length (part at (6 + n) image) }
   onward = rw long (let e : next .at ≡ at + (6 + n) = got .goes-on ∙ omega arith in ap (λ (x : ℕ). record { at = x }) e)
 
-  pub item-file : (t : ℕ) → t ≡ getD (part start n image) 0 0 → (eqb k 1 && (leb 2 t && (leb t 63 && ltb t n))) ≡ true
+  pub item-file : (t : ℕ) → t ≡ getD (part start n image) 0 0 → goodNumbers k t n ≡ true
       → File (start + 1) t (n - (t + 1)) next ≡ itemAt image at
   unfolding itemAt itemOf contentsLength contentsAt
   item-file t e g =
@@ -74,16 +76,14 @@ module _ (image : List ℕ) (at k start n : ℕ) (next : Cursor) (got : Passed i
       let rest : n - (t + 1) ≡ 6 + n - (7 + t) = omega arith in
       rw (got .walk, tested t e, g, ← titled, ← e, ← onward, long, seven, rest)
 
-  pub item-other : (t : ℕ) → t ≡ getD (part start n image) 0 0 → (eqb k 1 && (leb 2 t && (leb t 63 && ltb t n))) ≡ false → Other next ≡ itemAt image at
+  pub item-other : (t : ℕ) → t ≡ getD (part start n image) 0 0 → goodNumbers k t n ≡ false → Other next ≡ itemAt image at
   unfolding itemAt itemOf
   item-other t e g = rw (got .walk, tested t e, g, got .whole-one, ← onward)
 
   -- the path lies in the payload, and the payload in the image
-  pub item-room : (t : ℕ) → (eqb k 1 && (leb 2 t && (leb t 63 && ltb t n))) ≡ true → (t + 1 ≤ n) × (start + n ≤ length image)
+  pub item-room : (t : ℕ) → goodNumbers k t n ≡ true → (t + 1 ≤ n) × (start + n ≤ length image)
   item-room t g =
-      let a = and-eq-true-iff (eqb k 1) (leb 2 t && (leb t 63 && ltb t n)) .0 g .1 in
-      let b = and-eq-true-iff (leb 2 t) (leb t 63 && ltb t n) .0 a .1 in
-      let h = ltb-true t n (and-eq-true-iff (leb t 63) (ltb t n) .0 b .1) in
+      let h = numbers-room k t n g in
       let s = got .starts in
       let i = got .inside in
       (omega arith, omega arith)

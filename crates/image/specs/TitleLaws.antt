@@ -9,7 +9,7 @@ use Rattle.octets.specs.Lists.{onPart, KeepsLength}
 use Rattle.octets.specs.PartLaws.{part-take}
 use Rattle.octets.specs.OnPartLaws.{length-onPart, take-onPart-before}
 use Rattle.rows.specs.Records.{Alike, Like, none, more}
-use Rattle.rows.specs.WalkLaws.{kind-same}
+use Rattle.rows.specs.WalkLaws.{kind-same, payloadLength-same}
 use Rattle.rows.specs.LikeLaws.{whole-same, by-test}
 use Rattle.image.specs.Files.{pathLength, path, contentsAt, contentsLength, goodRecord, named, spotIn, onFileIn, holds, goodIn}
 
@@ -53,7 +53,7 @@ module _ (c d : List ℕ) (t : Titled c d) where
 
   pub good-same : goodRecord c ≡ goodRecord d
   unfolding goodRecord
-  good-same = rw (whole-same c d titled-alike, kind-same c d (titled-alike .0), pathLength-same, contentsAt-same, t .1)
+  good-same = rw (whole-same c d titled-alike, kind-same c d (titled-alike .0), pathLength-same, payloadLength-same c d (titled-alike .0))
 
   pub named-same : (p : List ℕ) → named p c ≡ named p d
   unfolding named

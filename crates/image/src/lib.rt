@@ -12,7 +12,7 @@ ghost use Rattle.octets.specs.Lists.{part};
 ghost use Rattle.rows.specs.Records.{chunks};
 ghost use Rattle.image.specs.Image.{good, spot, file};
 ghost use Rattle.image.specs.Items.{itemAt, againAt};
-ghost use Rattle.image.specs.Files.{spotIn};
+ghost use Rattle.image.specs.Files.{goodNumbers, spotIn};
 
 // Where a file's contents stand.
 pub enum Found {
@@ -52,6 +52,13 @@ fn first(image: &[u8], start: usize, count: usize) -> usize
     image[start] as usize
 }
 
+// Whether these are a good record's numbers: its kind, its path's length and its payload's.
+fn good_numbers(kind: u32, title: usize, count: usize) -> bool
+    ensures { λ r. ⌜ r ≡ goodNumbers kind title count ⌝ }
+{
+    (kind == 1) & ((2 <= title) & ((title <= 63) & (title < count)))
+}
+
 // The record at a cursor, as an image's.
 fn item_at(image: &[u8], cursor: Cursor) -> Item
     ensures { λ r. ⌜ r ≡ itemAt (now (image .entry)) (cursor .at) ⌝ }
@@ -66,8 +73,7 @@ fn item_at(image: &[u8], cursor: Cursor) -> Item
             next,
         } => {
             let title = first(image, start, count);
-            let good = (kind == 1) & ((2 <= title) & ((title <= 63) & (title < count)));
-            if good {
+            if good_numbers(kind, title, count) {
                 return Item::File {
                     start: start + 1,
                     title,
@@ -94,8 +100,9 @@ fn find_from(image: &[u8], from: Cursor, path: &[u8]) -> Found
                 next,
             } => {
                 if search::same(parts::piece(image, start, title), path) {
+                    let place = start + title;
                     return Found::At {
-                        place: start + title,
+                        place,
                         length: size,
                     };
                 }

@@ -31,8 +31,8 @@ piece-requires c κs = search needs
 same-requires : tie.Need-same-requires Inv-loop μ-loop
 same-requires c κs = search needs
 
-add-t13 : tie.Need-add-t13 Inv-loop μ-loop
-add-t13 c =
+add-place : tie.Need-add-place Inv-loop μ-loop
+add-place c =
     let image = c .before .before .before .before .before .before .before .before .before .before .args .image .now in
     let at = c .before .before .before .before .before .before .before .loop .cursor .at in
     let entry = item-entry image at _ _ _ _ (sym (c .before .before .before .before .before .before .item-at .ensures) ∙ c .before .before .before .before .start .given .1) in
@@ -104,7 +104,7 @@ find-from-spec =
     enum-known-start
     piece-requires
     same-requires
-    add-t13
+    add-place
     returns
     loop-less
     loop-again

@@ -1,4 +1,4 @@
--- `image::item_at` meets its contract: the step that was read, and the tests on its numbers, say which item the walk meets. Assumes nothing.
+-- `image::item_at` meets its contract: the step that was read, and the test of its numbers, say which item the walk meets. Assumes nothing.
 use mathlib.Core.Path.{sym, _∙_}
 use native.Mathlib.Omega.{arith}
 use Rattle.rows.specs.StepLaws.{step-passed}
@@ -22,32 +22,35 @@ enum-known-kind c = search needs
 first-requires : tie.Need-first-requires
 first-requires c κs = search needs
 
-add-t17 : tie.Need-add-t17
-add-t17 c =
-    let args = c .before .before .before .before .before .before .before .args in
-    let got = step-passed (args .image .now) (args .cursor .at) _ _ _ _ (sym (c .before .before .before .before .before .read .ensures) ∙ c .before .before .before .kind .given .1) in
-    let room = item-room (args .image .now) (args .cursor .at) _ _ _ _ got (c .before .first .result) (c .if1 .taken) in
+good-numbers-requires : tie.Need-good-numbers-requires
+good-numbers-requires c κs = search needs
+
+add-t11 : tie.Need-add-t11
+add-t11 c =
+    let args = c .before .before .before .before .before .before .before .before .args in
+    let got = step-passed (args .image .now) (args .cursor .at) _ _ _ _ (sym (c .before .before .before .before .before .before .read .ensures) ∙ c .before .before .before .before .kind .given .1) in
+    let room = item-room (args .image .now) (args .cursor .at) _ _ _ _ got (c .before .before .first .result) (sym (c .before .good-numbers .ensures) ∙ c .if1 .taken) in
     omega arith
 
-add-t18 : tie.Need-add-t18
-add-t18 c =
-    let args = c .before .before .before .before .before .before .before .args in
-    let got = step-passed (args .image .now) (args .cursor .at) _ _ _ _ (sym (c .before .before .before .before .before .read .ensures) ∙ c .before .before .before .kind .given .1) in
-    let room = item-room (args .image .now) (args .cursor .at) _ _ _ _ got (c .before .first .result) (c .if1 .taken) in
+add-t12 : tie.Need-add-t12
+add-t12 c =
+    let args = c .before .before .before .before .before .before .before .before .args in
+    let got = step-passed (args .image .now) (args .cursor .at) _ _ _ _ (sym (c .before .before .before .before .before .before .read .ensures) ∙ c .before .before .before .before .kind .given .1) in
+    let room = item-room (args .image .now) (args .cursor .at) _ _ _ _ got (c .before .before .first .result) (sym (c .before .good-numbers .ensures) ∙ c .if1 .taken) in
     omega arith
 
-sub-t19 : tie.Need-sub-t19
-sub-t19 c =
-    let args = c .before .before .before .before .before .before .before .args in
-    let got = step-passed (args .image .now) (args .cursor .at) _ _ _ _ (sym (c .before .before .before .before .before .read .ensures) ∙ c .before .before .before .kind .given .1) in
-    let room = item-room (args .image .now) (args .cursor .at) _ _ _ _ got (c .before .first .result) (c .if1 .taken) in
+sub-t13 : tie.Need-sub-t13
+sub-t13 c =
+    let args = c .before .before .before .before .before .before .before .before .args in
+    let got = step-passed (args .image .now) (args .cursor .at) _ _ _ _ (sym (c .before .before .before .before .before .before .read .ensures) ∙ c .before .before .before .before .kind .given .1) in
+    let room = item-room (args .image .now) (args .cursor .at) _ _ _ _ got (c .before .before .first .result) (sym (c .before .good-numbers .ensures) ∙ c .if1 .taken) in
     omega arith
 
 returns : tie.Need-returns
 returns c =
-    let args = c .before .before .before .before .before .before .before .args in
-    let got = step-passed (args .image .now) (args .cursor .at) _ _ _ _ (sym (c .before .before .before .before .before .read .ensures) ∙ c .before .before .before .kind .given .1) in
-    item-file (args .image .now) (args .cursor .at) _ _ _ _ got (c .before .first .result) (c .before .first .ensures) (c .if1 .taken)
+    let args = c .before .before .before .before .before .before .before .before .args in
+    let got = step-passed (args .image .now) (args .cursor .at) _ _ _ _ (sym (c .before .before .before .before .before .before .read .ensures) ∙ c .before .before .before .before .kind .given .1) in
+    item-file (args .image .now) (args .cursor .at) _ _ _ _ got (c .before .before .first .result) (c .before .before .first .ensures) (sym (c .before .good-numbers .ensures) ∙ c .if1 .taken)
 
 returns-2 : tie.Need-returns-2
 returns-2 c = item-end (c .before .before .before .before .args .image .now) (c .before .before .before .before .args .cursor .at) (sym (c .before .before .read .ensures) ∙ c .enum-told .given .1)
@@ -57,9 +60,9 @@ returns-3 c = item-cut (c .before .before .before .before .args .image .now) (c 
 
 returns-4 : tie.Need-returns-4
 returns-4 c =
-    let args = c .before .before .before .before .before .before .before .args in
-    let got = step-passed (args .image .now) (args .cursor .at) _ _ _ _ (sym (c .before .before .before .before .before .read .ensures) ∙ c .before .before .before .kind .given .1) in
-    item-other (args .image .now) (args .cursor .at) _ _ _ _ got (c .before .first .result) (c .before .first .ensures) (c .if1 .left)
+    let args = c .before .before .before .before .before .before .before .before .args in
+    let got = step-passed (args .image .now) (args .cursor .at) _ _ _ _ (sym (c .before .before .before .before .before .before .read .ensures) ∙ c .before .before .before .before .kind .given .1) in
+    item-other (args .image .now) (args .cursor .at) _ _ _ _ got (c .before .before .first .result) (c .before .before .first .ensures) (sym (c .before .good-numbers .ensures) ∙ c .if1 .left)
 
 pub item-at-spec : {M : Type 1} → statement M
 item-at-spec =
@@ -70,9 +73,10 @@ item-at-spec =
     enum-told-2
     enum-known-kind
     first-requires
-    add-t17
-    add-t18
-    sub-t19
+    good-numbers-requires
+    add-t11
+    add-t12
+    sub-t13
     returns
     returns-2
     returns-3
