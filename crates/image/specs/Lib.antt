@@ -8,3 +8,4 @@ pub mod PlaceLaws
 pub mod TitleLaws
 pub mod SpotLaws
 pub mod ChangeLaws
+pub mod GoodLaws
