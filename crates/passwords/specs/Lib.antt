@@ -5,3 +5,6 @@ pub mod PasswordFile
 pub mod AccountLaws
 pub mod WalkLaws
 pub mod FileLaws
+pub mod SameLaws
+pub mod ChangeLaws
+pub mod MaskLaws
