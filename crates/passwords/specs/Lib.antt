@@ -8,3 +8,4 @@ pub mod FileLaws
 pub mod SameLaws
 pub mod ChangeLaws
 pub mod MaskLaws
+pub mod FoundLaws

@@ -7,19 +7,19 @@ ghost use mathlib.Core.Path.{_≡_};
 ghost use Rattle.passwords.specs.Account.{name, digestOf, proper, obeys, changed};
 
 // Behind the header.
-pub const DIGEST_START: usize = 6;
+pub(crate) const DIGEST_START: usize = 6;
 
 const DIGEST_LENGTH: usize = 32;
 
 // The name.
-pub fn name(entry: &[u8]) -> &[u8]
+pub(crate) fn name(entry: &[u8]) -> &[u8]
     ensures { λ r. ⌜ now r ≡ name (now (entry .entry)) ⌝ }
 {
     parts::piece(entry, DIGEST_START + DIGEST_LENGTH, entry.len())
 }
 
 // The digest in force.
-pub fn digest(entry: &[u8]) -> &[u8]
+pub(crate) fn digest(entry: &[u8]) -> &[u8]
     ensures { λ r. ⌜ now r ≡ digestOf (now (entry .entry)) ⌝ }
 {
     parts::piece(entry, DIGEST_START, DIGEST_LENGTH)
@@ -34,7 +34,7 @@ fn proper(title: &[u8]) -> bool
 }
 
 // Whether the record is whole, of kind 2, and has a proper name.
-pub fn obeys(entry: &[u8]) -> bool
+pub(crate) fn obeys(entry: &[u8]) -> bool
     ensures { λ r. ⌜ r ≡ obeys (now (entry .entry)) ⌝ }
 {
     match Cursor::new().read(entry) {
@@ -54,7 +54,7 @@ pub fn obeys(entry: &[u8]) -> bool
 }
 
 // Puts a new digest in.
-pub fn change(entry: &mut [u8], new: &[u8])
+pub(crate) fn change(entry: &mut [u8], new: &[u8])
     ensures { λ _. ⌜ now (entry .exit) ≡ changed (now (new .entry)) (now (entry .entry)) ⌝ }
 {
     parts::place(new, entry, DIGEST_START, DIGEST_LENGTH, 0);

@@ -3,27 +3,28 @@ use rows::Cursor;
 use rows::Step;
 ghost use mathlib.Core.Path.{_≡_};
 ghost use Prim.Native.Nat.{_≤_};
-ghost use lib.ListN.{drop};
+ghost use lib.ListN.{length, drop};
 ghost use Rattle.rows.specs.Records.{chunks};
 ghost use Rattle.passwords.specs.Walk.{readingOf, spanOf};
 
 // What was read: a record of `size` bytes, with the count of records read; or nothing.
-pub enum Reading {
+pub(crate) enum Reading {
     Record { size: usize, count: usize },
     End,
 }
 
 // The place and the length of a record.
-pub struct Span {
+pub(crate) struct Span {
     pub at: usize,
     pub size: usize,
 }
 
 // Reads the record at place `at`, where `count` were read before. Nothing else raises the count.
-pub fn read(file: &[u8], at: usize, count: usize) -> Reading
-    requires { ⌜ count ≤ at ⌝ }
+pub(crate) fn read(file: &[u8], at: usize, count: usize) -> Reading
+    requires { ⌜ count ≤ length (now file) ⌝ }
     ensures { λ r. ⌜ r ≡ readingOf count (chunks (drop at (now (file .entry)))) ⌝ }
 {
+    let raised = count + 1;
     let cursor = Cursor { at };
     match cursor.read(file) {
         Step::Record {
@@ -35,19 +36,19 @@ pub fn read(file: &[u8], at: usize, count: usize) -> Reading
             let end = next.at;
             Reading::Record {
                 size: end - at,
-                count: count + 1,
+                count: raised,
             }
         }
         Step::Cut => Reading::Record {
             size: file.len() - at,
-            count: count + 1,
+            count: raised,
         },
         Step::End => Reading::End,
     }
 }
 
 // Where record i stands.
-pub fn locate(file: &[u8], i: usize) -> Span
+pub(crate) fn locate(file: &[u8], i: usize) -> Span
     ensures { λ r. ⌜ r ≡ spanOf i (now (file .entry)) ⌝ }
 {
     let mut at = 0;
