@@ -1,0 +1,76 @@
+-- `passwords::well_formed` meets its contract: the file is well formed where the records from the place on are good that the loop has come to. Assumes nothing.
+use mathlib.Core.Path.{_≡_, sym, _∙_}
+use Prim.Native.Nat.{_-_, _≤_}
+use native.Mathlib.Omega.{arith}
+use borrow.Author.Needs.{needs}
+use lib.ListN.{length, drop}
+use Rattle.rows.specs.Records.{chunks}
+use Rattle.passwords.specs.WalkLaws.{Taken, taken, ended}
+use borrow.Author.Tests.{not-true, not-false}
+use Rattle.passwords.specs.PasswordFile.{wellFormed}
+use Rattle.passwords.specs.FileLaws.{goodFrom, well-formed-good, rest-part, good-none, good-full, good-disobeys, good-again, good-on}
+use Rattle.passwords.proofs.well_formed.Statement.{statement}
+use Rattle.passwords.proofs.well_formed.Tie as tie
+
+abbrev Inv-loop : tie.InvT-loop
+Inv-loop file at₀ before₀ at before = (wellFormed file ≡ goodFrom before (chunks (drop at file))) × (before ≤ at) × (at ≤ length file)
+
+abbrev μ-loop : tie.MeasureT-loop
+μ-loop file at₀ before₀ at before = length file - at
+
+-- what is known once a record was read
+took : (c : tie.After-known-told Inv-loop μ-loop) → Taken (c .before .before .before .before .before .before .args .file .now) (c .before .before .before .before .loop .at) (c .before .before .before .before .loop .before) (c .before .reading .given .0 .0) (c .before .reading .given .0 .1 .0)
+took c = taken _ _ _ _ _ (sym (c .before .before .before .read .ensures) ∙ c .before .reading .given .1)
+
+loop-holds : tie.Need-loop-holds Inv-loop μ-loop
+loop-holds c = (well-formed-good (c .before .args .file .now), omega arith, omega arith)
+
+read-requires : tie.Need-read-requires Inv-loop μ-loop
+read-requires c κs = omega arith
+
+enum-known-reading : tie.Need-enum-known-reading Inv-loop μ-loop
+enum-known-reading c = search needs
+
+enum-told : tie.Need-enum-told Inv-loop μ-loop
+enum-told c = search needs
+
+returns : tie.Need-returns Inv-loop μ-loop
+returns c = let args = c .before .before .before .before .before .args in sym (c .before .before .before .loop .inv .0 ∙ good-none (c .before .before .before .loop .before) (c .before .before .before .loop .at) (args .file .now) (ended (args .file .now) (c .before .before .before .loop .at) (c .before .before .before .loop .before) (sym (c .before .before .read .ensures) ∙ c .enum-told .given .1)))
+
+returns-2 : tie.Need-returns-2 Inv-loop μ-loop
+returns-2 c = sym (c .before .before .before .before .before .loop .inv .0 ∙ good-full _ _ _ _ _ (took (c .before)) (c .if1 .taken))
+
+piece-requires : tie.Need-piece-requires Inv-loop μ-loop
+piece-requires c κs = search needs
+
+obeys-requires : tie.Need-obeys-requires Inv-loop μ-loop
+obeys-requires c κs = search needs
+
+returns-3 : tie.Need-returns-3 Inv-loop μ-loop
+returns-3 c = sym (c .before .before .before .before .before .before .before .before .loop .inv .0 ∙ good-disobeys _ _ _ _ _ (took (c .before .before .before .before)) (c .before .before .before .if1 .left) (rw (c .before .before .piece .ensures) at (sym (c .before .obeys .ensures) ∙ not-true _ (c .if2 .taken))))
+
+add-at : tie.Need-add-at Inv-loop μ-loop
+add-at c = let t = took (c .before .before .before .before) in record { fits = omega arith }
+
+piece-requires-2 : tie.Need-piece-requires-2 Inv-loop μ-loop
+piece-requires-2 c κs = search needs
+
+name-requires : tie.Need-name-requires Inv-loop μ-loop
+name-requires c κs = search needs
+
+named-requires : tie.Need-named-requires Inv-loop μ-loop
+named-requires c κs = search needs
+
+returns-4 : tie.Need-returns-4 Inv-loop μ-loop
+returns-4 c = sym (c .before .before .before .before .before .before .before .before .before .before .before .before .loop .inv .0 ∙ good-again _ _ _ _ _ (took (c .before .before .before .before .before .before .before .before)) (c .before .before .before .before .before .before .before .if1 .left) (rw (c .before .before .before .before .before .before .piece .ensures) at (sym (c .before .before .before .before .before .obeys .ensures) ∙ not-false _ (c .before .before .before .before .if2 .left))) (rw (c .before .before .name .ensures, c .before .before .before .before .before .before .piece .ensures, c .before .before .before .piece2 .ensures, rest-part) at (sym (c .before .named .ensures) ∙ c .if3 .taken)))
+
+loop-less : tie.Need-loop-less Inv-loop μ-loop
+loop-less c = let t = took (c .before .before .before .before .before .before .before .before) in omega arith
+
+loop-again : tie.Need-loop-again Inv-loop μ-loop
+loop-again c =
+    let t = took (c .before .before .before .before .before .before .before .before) in
+    (c .before .before .before .before .before .before .before .before .before .before .before .before .loop .inv .0 ∙ good-on _ _ _ _ _ t (c .before .before .before .before .before .before .before .if1 .left) (rw (c .before .before .before .before .before .before .piece .ensures) at (sym (c .before .before .before .before .before .obeys .ensures) ∙ not-false _ (c .before .before .before .before .if2 .left))) (rw (c .before .before .name .ensures, c .before .before .before .before .before .before .piece .ensures, c .before .before .before .piece2 .ensures, rest-part) at (sym (c .before .named .ensures) ∙ c .if3 .left)), omega arith, omega arith)
+
+pub well-formed-spec : {M : Type 1} → statement M
+well-formed-spec = tie.close (tie.spec Inv-loop μ-loop loop-holds read-requires enum-known-reading enum-told returns returns-2 piece-requires obeys-requires returns-3 add-at piece-requires-2 name-requires named-requires returns-4 loop-less loop-again)
