@@ -54,6 +54,7 @@ nameAt i file = name (recordAt i file)
 unfoldable pub digestAt : ℕ → List ℕ → List ℕ
 digestAt i file = digestOf (recordAt i file)
 
+-- where its digest stands in the file; behind the file's end where there is no such record
 unfoldable pub digestPlace : ℕ → List ℕ → ℕ
 digestPlace i file = spanOf i file .at + digestStart
 
