@@ -17,11 +17,11 @@ use Rattle.octets.specs.NthLaws.{nth-onNth-other}
 use Rattle.octets.specs.WriteLaws.{length-over, over-nothing, over-same, over-front, over-take, writeAt-nil, onPart-writeAt}
 use Rattle.rows.specs.Records.{kind, chunks, whole}
 use Rattle.rows.specs.LikeLaws.{by-test}
-use Rattle.passwords.specs.Account.{digestOf, name, noZero, proper, obeys, changed}
+use Rattle.passwords.specs.Account.{digestOf, name, noZero, shaped, obeys, changed}
 use Rattle.passwords.specs.AccountLaws.{changed-write, length-changed, digest-changed, same-changed}
 use Rattle.passwords.specs.Walk.{spanOf}
 use Rattle.passwords.specs.WalkLaws.{span-fits, span-change}
-use Rattle.passwords.specs.PasswordFile.{allObey, distinct, wellFormed, recordAt, digestAt, digestPlace, withDigest}
+use Rattle.passwords.specs.PasswordFile.{allObey, distinct, wellFormed, allShaped, sound, count, recordAt, digestAt, digestPlace, withDigest}
 use Rattle.passwords.specs.FileLaws.{record-part}
 use Rattle.passwords.specs.SameLaws.{SameUsers, same-onNth, same-chunks, same-users, users-length, users-wellFormed}
 
@@ -150,31 +150,43 @@ broken-wellFormed k i new file w =
     let s = broken-users k i new file in
     (sym (users-wellFormed s) ∙ w, sym (users-length s))
 
--- ---- a well-formed file
+-- ---- the digests' length
 
 both : (a b : Bool) → (a && b) ≡ true → (a ≡ true) × (b ≡ true)
 both a b e = and-eq-true-iff a b .0 e
 
-obeys-digest : (c : List ℕ) → obeys c ≡ true → length (digestOf c) ≡ 32
-unfolding obeys proper digestOf name
-obeys-digest c e =
+shaped-digest : (c : List ℕ) → shaped c ≡ true → length (digestOf c) ≡ 32
+unfolding shaped digestOf name
+shaped-digest c e =
     let n = drop 38 c in
-    let of-kind = both (whole c) (eqb (kind c) 2 && proper n) e .1 in
-    let named = both (eqb (kind c) 2) (proper n) of-kind .1 in
-    let some = leb-true 1 (length (drop 38 c)) (both (leb 1 (length n)) (leb (length n) 32 && noZero n) named .0) in
+    let named = both (whole c) (leb 1 (length n) && leb (length n) 32) e .1 in
+    let some = leb-true 1 (length (drop 38 c)) (both (leb 1 (length n)) (leb (length n) 32) named .0) in
     let long = length-drop 38 c in
     length-part 6 32 c ∙ omega arith
 
-nth-obeys : (i : ℕ) (cs : List (List ℕ)) → allObey cs ≡ true → i < length cs → obeys (getD cs i []) ≡ true
-unfolding allObey
-nth-obeys i [] e h = absurd (not-suc-le-zero h)
-nth-obeys zero (c ∷ cs) e h = both (obeys c) (allObey cs) e .0
-nth-obeys (suc i) (c ∷ cs) e h = nth-obeys i cs (both (obeys c) (allObey cs) e .1) (le-of-suc-le-suc h)
+nth-shaped : (i : ℕ) (cs : List (List ℕ)) → allShaped cs ≡ true → i < length cs → shaped (getD cs i []) ≡ true
+unfolding allShaped
+nth-shaped i [] e h = absurd (not-suc-le-zero h)
+nth-shaped zero (c ∷ cs) e h = both (shaped c) (allShaped cs) e .0
+nth-shaped (suc i) (c ∷ cs) e h = nth-shaped i cs (both (shaped c) (allShaped cs) e .1) (le-of-suc-le-suc h)
 
-pub record-obeys : (i : ℕ) (file : List ℕ) → wellFormed file ≡ true → i < length (chunks file) → obeys (recordAt i file) ≡ true
-unfolding wellFormed recordAt
-record-obeys i file w h = nth-obeys i (chunks file) (both (allObey (chunks file)) (leb (length (chunks file)) 64 && distinct (chunks file)) w .0) h
+pub digest-length : (i : ℕ) (file : List ℕ) → sound file ≡ true → i < count file → length (digestAt i file) ≡ 32
+unfolding digestAt recordAt sound count
+digest-length i file w h = shaped-digest (getD (chunks file) i []) (nth-shaped i (chunks file) (both (allShaped (chunks file)) (leb (length (chunks file)) 64) w .0) h)
 
-pub digest-length : (i : ℕ) (file : List ℕ) → wellFormed file ≡ true → i < length (chunks file) → length (digestAt i file) ≡ 32
-unfolding digestAt
-digest-length i file w h = obeys-digest (recordAt i file) (record-obeys i file w h)
+-- ---- a well-formed file is sound
+
+obeyed-shaped : (cs : List (List ℕ)) → allObey cs ≡ true → allShaped cs ≡ true
+unfolding allObey allShaped obeys
+obeyed-shaped [] e = refl
+obeyed-shaped (c ∷ cs) e =
+    let h = both (obeys c) (allObey cs) e in
+    let s = both (shaped c) (eqb (kind c) 2 && noZero (name c)) (h .0) .0 in
+    rw (s, obeyed-shaped cs (h .1))
+
+pub well-formed-sound : (file : List ℕ) → wellFormed file ≡ true → sound file ≡ true
+unfolding wellFormed sound
+well-formed-sound file w =
+    let h = both (allObey (chunks file)) (leb (length (chunks file)) 64 && distinct (chunks file)) w in
+    let few = both (leb (length (chunks file)) 64) (distinct (chunks file)) (h .1) .0 in
+    rw (obeyed-shaped (chunks file) (h .0), few)

@@ -9,7 +9,7 @@ use Rattle.octets.specs.Same.{sameBytes}
 use Rattle.rows.specs.Records.{chunks, join}
 use Rattle.passwords.specs.declared.Lookup.{Lookup}
 use Rattle.passwords.specs.declared.Lookup.the-variants.{At, Nowhere}
-use Rattle.passwords.specs.Account.{digestStart, digestOf, name, obeys, changed, blanked}
+use Rattle.passwords.specs.Account.{digestStart, digestOf, name, shaped, obeys, changed, blanked}
 use Rattle.passwords.specs.Walk.{spanOf}
 
 -- ---- well formed
@@ -30,6 +30,18 @@ distinct (c ∷ cs) = not (named (name c) cs) && distinct cs
 -- every record obeys its kind, "at most 64 records, names distinct"; an empty file is well formed
 unfoldable pub wellFormed : List ℕ → Bool
 wellFormed file = allObey (chunks file) && (leb (length (chunks file)) 64 && distinct (chunks file))
+
+-- what a table in memory must be to be read: its records end where it ends, each with room for a digest and a name, and there are at most 64
+-- (01, Calls: "a place or count, .. read in a password table, that leads outside its area")
+unfoldable pub allShaped : List (List ℕ) → Bool
+allShaped [] = true
+allShaped (c ∷ cs) = shaped c && allShaped cs
+
+unfoldable pub sound : List ℕ → Bool
+sound file = allShaped (chunks file) && leb (length (chunks file)) 64
+
+unfoldable pub count : List ℕ → ℕ
+count file = length (chunks file)
 
 -- ---- a record by its name
 

@@ -9,8 +9,8 @@ use Rattle.octets.specs.Numbers.{little, spelled}
 use Rattle.octets.specs.Same.{sameBytes}
 use Rattle.rows.specs.Records.{payloadLength, kind, size, cut, chunks, join, whole}
 use Rattle.passwords.specs.declared.Lookup.the-variants.{At, Nowhere}
-use Rattle.passwords.specs.Account.{digestOf, name, noZero, proper, obeys, changed, zeros, blanked}
-use Rattle.passwords.specs.PasswordFile.{allObey, named, distinct, wellFormed, findFrom, find, recordAt, nameAt, digestAt, withDigest, maskDigests}
+use Rattle.passwords.specs.Account.{digestOf, name, noZero, shaped, obeys, changed, zeros, blanked}
+use Rattle.passwords.specs.PasswordFile.{allObey, named, distinct, wellFormed, allShaped, sound, count, findFrom, find, recordAt, nameAt, digestAt, withDigest, maskDigests}
 
 -- ---- the files
 
@@ -44,41 +44,52 @@ unfolding chunks cut wellFormed allObey distinct
 empty = refl
 
 pub good : wellFormed two ≡ true
-unfolding two account entry spelled little part payloadLength kind size cut chunks whole name noZero proper obeys sameBytes allObey named distinct wellFormed
+unfolding two account entry spelled little part payloadLength kind size cut chunks whole name noZero shaped obeys sameBytes allObey named distinct wellFormed
 good = refl
 
 -- cut at each place: good only where a record ends
 pub cuts : goodCuts 80 two ≡ 79 ∷ 40 ∷ 0 ∷ []
-unfolding goodCuts two account entry spelled little part payloadLength kind size cut chunks whole name noZero proper obeys sameBytes allObey named distinct wellFormed
+unfolding goodCuts two account entry spelled little part payloadLength kind size cut chunks whole name noZero shaped obeys sameBytes allObey named distinct wellFormed
 cuts = refl
 
 -- a name has 1 to 32 bytes, none zero
 pub names : wellFormed (account 7 []) ∷ wellFormed (account 7 (replicate 32 97)) ∷ wellFormed (account 7 (replicate 33 97))
     ∷ wellFormed (account 7 (97 ∷ 0 ∷ 98 ∷ [])) ∷ wellFormed (entry 2 (replicate 31 7)) ∷ []
     ≡ false ∷ true ∷ false ∷ false ∷ false ∷ []
-unfolding account entry spelled little part payloadLength kind size cut chunks whole name noZero proper obeys sameBytes allObey named distinct wellFormed
+unfolding account entry spelled little part payloadLength kind size cut chunks whole name noZero shaped obeys sameBytes allObey named distinct wellFormed
 names = refl
 
 -- another kind
 pub kinds : wellFormed (entry 3 (replicate 33 97)) ∷ wellFormed (entry 258 (replicate 33 97)) ∷ wellFormed (two ++ entry 1 (replicate 33 97)) ∷ []
     ≡ false ∷ false ∷ false ∷ []
-unfolding two account entry spelled little part payloadLength kind size cut chunks whole name noZero proper obeys sameBytes allObey named distinct wellFormed
+unfolding two account entry spelled little part payloadLength kind size cut chunks whole name noZero shaped obeys sameBytes allObey named distinct wellFormed
 kinds = refl
 
 -- a repeated name, with another digest or behind others; a longer name is another one
 pub repeated : wellFormed (account 7 (97 ∷ []) ++ account 8 (97 ∷ [])) ∷ wellFormed (two ++ account 7 (97 ∷ 98 ∷ [])) ∷ wellFormed (two ++ account 7 (97 ∷ [])) ∷ []
     ≡ false ∷ false ∷ true ∷ []
-unfolding two account entry spelled little part payloadLength kind size cut chunks whole name noZero proper obeys sameBytes allObey named distinct wellFormed
+unfolding two account entry spelled little part payloadLength kind size cut chunks whole name noZero shaped obeys sameBytes allObey named distinct wellFormed
 repeated = refl
 
 -- at most 64 records
 pub sixty-four : wellFormed (crowd 64) ≡ true
-unfolding crowd account entry spelled little part payloadLength kind size cut chunks whole name noZero proper obeys sameBytes allObey named distinct wellFormed
+unfolding crowd account entry spelled little part payloadLength kind size cut chunks whole name noZero shaped obeys sameBytes allObey named distinct wellFormed
 sixty-four = refl
 
 pub sixty-five : wellFormed (crowd 65) ≡ false
-unfolding crowd account entry spelled little part payloadLength kind size cut chunks whole name noZero proper obeys sameBytes allObey named distinct wellFormed
+unfolding crowd account entry spelled little part payloadLength kind size cut chunks whole name noZero shaped obeys sameBytes allObey named distinct wellFormed
 sixty-five = refl
+
+-- a table that can be read may have another kind, a zero in a name and a name twice, and nothing else
+pub tables : sound two ∷ sound (entry 3 (replicate 33 0)) ∷ sound (two ++ two) ∷ sound (take 78 two) ∷ sound (account 7 []) ∷ sound (crowd 65) ∷ []
+    ≡ true ∷ true ∷ true ∷ false ∷ false ∷ false ∷ []
+unfolding crowd two account entry spelled little part payloadLength size cut chunks whole name shaped allShaped sound
+tables = refl
+
+-- a record that the file's end cuts off counts
+pub counts : count [] ∷ count two ∷ count (take 78 two) ∷ count (take 41 two) ∷ count (take 40 two) ∷ [] ≡ 0 ∷ 2 ∷ 2 ∷ 2 ∷ 1 ∷ []
+unfolding two account entry spelled little part payloadLength size cut chunks count
+counts = refl
 
 -- ---- found or not
 

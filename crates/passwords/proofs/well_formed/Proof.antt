@@ -8,12 +8,12 @@ use Rattle.rows.specs.Records.{chunks}
 use Rattle.passwords.specs.WalkLaws.{Taken, taken, ended}
 use borrow.Author.Tests.{not-true, not-false}
 use Rattle.passwords.specs.PasswordFile.{wellFormed}
-use Rattle.passwords.specs.FileLaws.{goodFrom, well-formed-good, rest-part, good-none, good-full, good-disobeys, good-again, good-on}
+use Rattle.passwords.specs.FileLaws.{fewFrom, few-none, few-full, few-fails, few-on, good, well-formed-few, good-disobeys, good-again, good-new, rest-part}
 use Rattle.passwords.proofs.well_formed.Statement.{statement}
 use Rattle.passwords.proofs.well_formed.Tie as tie
 
 abbrev Inv-loop : tie.InvT-loop
-Inv-loop file at₀ before₀ at before = (wellFormed file ≡ goodFrom before (chunks (drop at file))) × (before ≤ at) × (at ≤ length file)
+Inv-loop file at₀ before₀ at before = (wellFormed file ≡ fewFrom good before (chunks (drop at file))) × (before ≤ at) × (at ≤ length file)
 
 abbrev μ-loop : tie.MeasureT-loop
 μ-loop file at₀ before₀ at before = length file - at
@@ -25,7 +25,7 @@ took : (c : tie.After-known-told Inv-loop μ-loop)
 took c = taken _ _ _ _ _ (sym (c .before .before .before .read .ensures) ∙ c .before .reading .given .1)
 
 loop-holds : tie.Need-loop-holds Inv-loop μ-loop
-loop-holds c = (well-formed-good (c .before .args .file .now), omega arith, omega arith)
+loop-holds c = (well-formed-few (c .before .args .file .now), omega arith, omega arith)
 
 read-requires : tie.Need-read-requires Inv-loop μ-loop
 read-requires c κs = omega arith
@@ -41,10 +41,10 @@ returns c =
     let loop = c .before .before .before .loop in
     let file = c .before .before .before .before .before .args .file .now in
     let end = ended file (loop .at) (loop .before) (sym (c .before .before .read .ensures) ∙ c .enum-told .given .1) in
-    sym (loop .inv .0 ∙ good-none (loop .before) (loop .at) file end)
+    sym (loop .inv .0 ∙ few-none good (loop .before) (loop .at) file end)
 
 returns-2 : tie.Need-returns-2 Inv-loop μ-loop
-returns-2 c = sym (c .before .before .before .before .before .loop .inv .0 ∙ good-full _ _ _ _ _ (took (c .before)) (c .if1 .taken))
+returns-2 c = sym (c .before .before .before .before .before .loop .inv .0 ∙ few-full good _ _ _ _ _ (took (c .before)) (c .if1 .taken))
 
 piece-requires : tie.Need-piece-requires Inv-loop μ-loop
 piece-requires c κs = search needs
@@ -56,7 +56,7 @@ returns-3 : tie.Need-returns-3 Inv-loop μ-loop
 returns-3 c =
     let read = c .before .before .before .before in
     let bad = rw (c .before .before .piece .ensures) at (sym (c .before .obeys .ensures) ∙ not-true _ (c .if2 .taken)) in
-    sym (read .before .before .before .before .loop .inv .0 ∙ good-disobeys _ _ _ _ _ (took read) (c .before .before .before .if1 .left) bad)
+    sym (read .before .before .before .before .loop .inv .0 ∙ few-fails good _ _ _ _ _ (took read) (c .before .before .before .if1 .left) (good-disobeys _ _ bad))
 
 add-at : tie.Need-add-at Inv-loop μ-loop
 add-at c = let t = took (c .before .before .before .before) in record { fits = omega arith }
@@ -78,7 +78,7 @@ returns-4 c =
     let obeyed = rw piece at (sym (here .before .obeys .ensures) ∙ not-false _ (here .if2 .left)) in
     let sought = sym (c .before .named .ensures) ∙ c .if3 .taken in
     let again = rw (c .before .before .name .ensures, piece, c .before .before .before .piece2 .ensures, rest-part) at sought in
-    sym (read .before .before .before .before .loop .inv .0 ∙ good-again _ _ _ _ _ (took read) (here .before .before .before .if1 .left) obeyed again)
+    sym (read .before .before .before .before .loop .inv .0 ∙ few-fails good _ _ _ _ _ (took read) (here .before .before .before .if1 .left) (good-again _ _ obeyed again))
 
 loop-less : tie.Need-loop-less Inv-loop μ-loop
 loop-less c = let t = took (c .before .before .before .before .before .before .before .before) in omega arith
@@ -92,7 +92,7 @@ loop-again c =
     let sought = sym (c .before .named .ensures) ∙ c .if3 .left in
     let again = rw (c .before .before .name .ensures, piece, c .before .before .before .piece2 .ensures, rest-part) at sought in
     let t = took read in
-    (read .before .before .before .before .loop .inv .0 ∙ good-on _ _ _ _ _ t (here .before .before .before .if1 .left) obeyed again, omega arith, omega arith)
+    (read .before .before .before .before .loop .inv .0 ∙ few-on good _ _ _ _ _ t (here .before .before .before .if1 .left) (good-new _ _ obeyed again), omega arith, omega arith)
 
 pub well-formed-spec : {M : Type 1} → statement M
 well-formed-spec = tie.close (tie.spec Inv-loop μ-loop loop-holds read-requires enum-known-reading enum-told returns returns-2 piece-requires obeys-requires returns-3 add-at piece-requires-2 name-requires named-requires returns-4 loop-less loop-again)
