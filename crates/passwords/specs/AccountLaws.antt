@@ -1,17 +1,17 @@
 -- What the record view says of a record that is read, and what a change of the digest leaves of it.
-use mathlib.Core.Bool.{Bool, true, false, _&&_}
+use mathlib.Core.Bool.{Bool, true, false, _&&_, and-eq-true-iff}
 use mathlib.Core.List.{List, [], _∷_}
 use mathlib.Core.Path.{_≡_, refl, sym, ap, _∙_}
 use Prim.Native.Nat.{ℕ, suc, _+_, _≤_, compare·suc-suc}
 use native.Mathlib.Nat.{le-refl}
 use native.Mathlib.Omega.{arith}
-use borrow.Author.Tests.{ne-eqb}
+use borrow.Author.Tests.{ne-eqb, leb-true}
 use lib.Dec.{eqb, leb}
 use lib.ListN.{length, take, drop, length-drop, length-replicate}
 use lib.Seq.{take-all}
 use Rattle.bytes.specs.Bytes.{indexOf, indexAfter}
 use Rattle.octets.specs.Lists.{part, over, onPart, writeAt, KeepsLength}
-use Rattle.octets.specs.PartLaws.{part-def, take-part}
+use Rattle.octets.specs.PartLaws.{part-def, take-part, length-part}
 use Rattle.octets.specs.OnPartLaws.{onPart-same, length-onPart, drop-onPart-behind, part-onPart-same, onPart-twice}
 use Rattle.octets.specs.WriteLaws.{length-over, writeAt-zero, onPart-writeAt}
 use Rattle.rows.specs.declared.Cursor.{Cursor}
@@ -22,7 +22,7 @@ use Rattle.rows.specs.LikeLaws.{whole-same}
 use Rattle.rows.specs.ChangeLaws.{alike-onPart}
 use Rattle.rows.specs.Steps.{stepAt}
 use Rattle.rows.specs.StepLaws.{Passed, step-passed, step-stopped, step-ended}
-use Rattle.passwords.specs.Account.{digestOf, name, noZero, shaped, obeys, changed, zeros, blanked}
+use Rattle.passwords.specs.Account.{digestLength, digestOf, name, noZero, shaped, obeys, changed, zeros, blanked}
 
 -- ---- a record that is read
 
@@ -85,6 +85,24 @@ obeys-read c k start n next e = rw (kind-read c k start n next (step-passed c 0 
 pub obeys-unshaped : (c : List ℕ) → shaped c ≡ false → obeys c ≡ false
 unfolding obeys
 obeys-unshaped c e = rw e
+
+-- ---- a record that obeys
+
+pub both : (a b : Bool) → (a && b) ≡ true → (a ≡ true) × (b ≡ true)
+both a b e = and-eq-true-iff a b .0 e
+
+pub obeys-shaped : (c : List ℕ) → obeys c ≡ true → shaped c ≡ true
+unfolding obeys
+obeys-shaped c e = both (shaped c) (eqb (kind c) 2 && noZero (name c)) e .0
+
+pub shaped-digest : (c : List ℕ) → shaped c ≡ true → length (digestOf c) ≡ digestLength
+unfolding shaped digestOf name
+shaped-digest c e =
+    let n = drop 38 c in
+    let named = both (whole c) (leb 1 (length n) && leb (length n) 32) e .1 in
+    let some = leb-true 1 (length (drop 38 c)) (both (leb 1 (length n)) (leb (length n) 32) named .0) in
+    let long = length-drop 38 c in
+    length-part 6 32 c ∙ omega arith
 
 -- ---- a record that is changed
 

@@ -19,7 +19,7 @@ use Rattle.passwords.specs.declared.Lookup.the-variants.{At, Nowhere}
 use Rattle.passwords.specs.Account.{digestStart, name, shaped, obeys}
 use Rattle.passwords.specs.Walk.{spanOf}
 use Rattle.passwords.specs.WalkLaws.{Taken, span-part}
-use Rattle.passwords.specs.PasswordFile.{allObey, named, distinct, wellFormed, allShaped, sound, findFrom, find, recordAt}
+use Rattle.passwords.specs.PasswordFile.{allObey, named, distinct, wellFormed, count, allShaped, sound, findFrom, find, recordAt}
 
 -- ---- find
 
@@ -139,7 +139,7 @@ turned true false true = refl
 turned true false false = refl
 
 pub well-formed-few : (file : List ℕ) → wellFormed file ≡ fewFrom good 0 (chunks file)
-unfolding wellFormed
+unfolding wellFormed count
 well-formed-few file =
     turned (allObey (chunks file)) (leb (length (chunks file)) 64) (distinct (chunks file))
     ∙ rw (← every-good (chunks file)) (few-all good (chunks file))
@@ -165,7 +165,7 @@ every-fits [] = refl
 every-fits (c ∷ cs) = rw (every-fits cs)
 
 pub sound-few : (file : List ℕ) → sound file ≡ fewFrom fits 0 (chunks file)
-unfolding sound
+unfolding sound count
 sound-few file = rw (← every-fits (chunks file)) (few-all fits (chunks file))
 
 -- ---- how many records

@@ -11,11 +11,9 @@ use Rattle.rows.specs.Records.{chunks}
 use Rattle.passwords.specs.declared.Lookup.the-variants.{At, Nowhere}
 use Rattle.passwords.specs.Account.{digestStart, name}
 use Rattle.passwords.specs.Walk.{spanFrom, spanOf}
+use Rattle.passwords.specs.WalkLaws.{clash}
 use Rattle.passwords.specs.PasswordFile.{named, count, findFrom, find, recordAt, nameAt, digestPlace}
 use Rattle.passwords.specs.FileLaws.{isFound, named-find}
-
-clash : {P : Type 0} → _≡_ {A = ℕ} 0 1 → P
-clash e = absurd (omega arith)
 
 -- ---- found
 
@@ -37,7 +35,7 @@ found-from n before at (c ∷ cs) i place count e = go (sameBytes (name c) n) re
     go : (t : Bool) → sameBytes (name c) n ≡ t → (findFrom n (before + 1) (at + length c) cs ≡ At i place count → FoundFrom n (before + 1) (at + length c) cs i place count)
         → FoundFrom n before at (c ∷ cs) i place count
     go true s rest =
-        let here : At before (at + 6) (before + 1) ≡ At i place count = rw s at e in
+        let here : At before (at + digestStart) (before + 1) ≡ At i place count = rw s at e in
         let number : i ≡ before = cc in
         let raised : count ≡ before + 1 = cc in
         record { behind = 0; numbered = omega arith; inside = omega arith; has-name = same-eq (name c) n s; stands = cc; counted = omega arith }
@@ -69,7 +67,7 @@ missed-from n before at [] count e = let z : count ≡ before = cc in omega arit
 missed-from n before at (c ∷ cs) count e = go (sameBytes (name c) n) refl (missed-from n (before + 1) (at + length c) cs count)
   where
     go : (t : Bool) → sameBytes (name c) n ≡ t → (findFrom n (before + 1) (at + length c) cs ≡ Nowhere count → count ≡ before + 1 + length cs) → count ≡ before + length (c ∷ cs)
-    go true s rest = let here : At before (at + 6) (before + 1) ≡ Nowhere count = rw s at e in clash (cc)
+    go true s rest = let here : At before (at + digestStart) (before + 1) ≡ Nowhere count = rw s at e in clash (cc)
     go false s rest = let r = rest (rw s at e) in omega arith
 
 -- "or all of them"

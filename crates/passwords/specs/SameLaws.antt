@@ -102,11 +102,11 @@ module _ {file other : List ℕ} (s : SameUsers file other) where
   users-count = same-count (s .accounts)
 
   pub users-sound : sound file ≡ sound other
-  unfolding sound
+  unfolding sound count
   users-sound = rw (same-allShaped (s .accounts), same-count (s .accounts))
 
   pub users-wellFormed : wellFormed file ≡ wellFormed other
-  unfolding wellFormed
+  unfolding wellFormed count
   users-wellFormed = rw (same-allObey (s .accounts), same-count (s .accounts), same-distinct (s .accounts))
 
   -- with its number, the place of its digest and the count

@@ -36,59 +36,64 @@ unfoldable pub goodCuts : ℕ → List ℕ → List ℕ
 goodCuts zero file = []
 goodCuts (suc n) file = cond (wellFormed (take n file)) (n ∷ []) [] ++ goodCuts n file
 
+-- a name that opens, on an `unfolding` line, all that these files are judged and changed by
+unfoldable pub opened : ℕ
+unfolding entry account two crowd goodCuts part over onPart onNth little spelled sameBytes payloadLength kind size cut chunks join whole digestOf name noZero shaped obeys changed zeros blanked allObey named distinct count wellFormed allShaped sound findFrom find recordAt nameAt digestAt withDigest maskDigests
+opened = 0
+
 -- ---- well formed or not
 
 -- an empty file is well formed
 pub empty : wellFormed [] ≡ true
-unfolding chunks cut wellFormed allObey distinct
+unfolding opened
 empty = refl
 
 pub good : wellFormed two ≡ true
-unfolding two account entry spelled little part payloadLength kind size cut chunks whole name noZero shaped obeys sameBytes allObey named distinct wellFormed
+unfolding opened
 good = refl
 
 -- cut at each place: good only where a record ends
 pub cuts : goodCuts 80 two ≡ 79 ∷ 40 ∷ 0 ∷ []
-unfolding goodCuts two account entry spelled little part payloadLength kind size cut chunks whole name noZero shaped obeys sameBytes allObey named distinct wellFormed
+unfolding opened
 cuts = refl
 
 -- a name has 1 to 32 bytes, none zero
 pub names : wellFormed (account 7 []) ∷ wellFormed (account 7 (replicate 32 97)) ∷ wellFormed (account 7 (replicate 33 97))
     ∷ wellFormed (account 7 (97 ∷ 0 ∷ 98 ∷ [])) ∷ wellFormed (entry 2 (replicate 31 7)) ∷ []
     ≡ false ∷ true ∷ false ∷ false ∷ false ∷ []
-unfolding account entry spelled little part payloadLength kind size cut chunks whole name noZero shaped obeys sameBytes allObey named distinct wellFormed
+unfolding opened
 names = refl
 
 -- another kind
 pub kinds : wellFormed (entry 3 (replicate 33 97)) ∷ wellFormed (entry 258 (replicate 33 97)) ∷ wellFormed (two ++ entry 1 (replicate 33 97)) ∷ []
     ≡ false ∷ false ∷ false ∷ []
-unfolding two account entry spelled little part payloadLength kind size cut chunks whole name noZero shaped obeys sameBytes allObey named distinct wellFormed
+unfolding opened
 kinds = refl
 
 -- a repeated name, with another digest or behind others; a longer name is another one
 pub repeated : wellFormed (account 7 (97 ∷ []) ++ account 8 (97 ∷ [])) ∷ wellFormed (two ++ account 7 (97 ∷ 98 ∷ [])) ∷ wellFormed (two ++ account 7 (97 ∷ [])) ∷ []
     ≡ false ∷ false ∷ true ∷ []
-unfolding two account entry spelled little part payloadLength kind size cut chunks whole name noZero shaped obeys sameBytes allObey named distinct wellFormed
+unfolding opened
 repeated = refl
 
 -- at most 64 records
 pub sixty-four : wellFormed (crowd 64) ≡ true
-unfolding crowd account entry spelled little part payloadLength kind size cut chunks whole name noZero shaped obeys sameBytes allObey named distinct wellFormed
+unfolding opened
 sixty-four = refl
 
 pub sixty-five : wellFormed (crowd 65) ≡ false
-unfolding crowd account entry spelled little part payloadLength kind size cut chunks whole name noZero shaped obeys sameBytes allObey named distinct wellFormed
+unfolding opened
 sixty-five = refl
 
 -- a table that can be read may have another kind, a zero in a name and a name twice, and nothing else
 pub tables : sound two ∷ sound (entry 3 (replicate 33 0)) ∷ sound (two ++ two) ∷ sound (take 78 two) ∷ sound (account 7 []) ∷ sound (crowd 65) ∷ []
     ≡ true ∷ true ∷ true ∷ false ∷ false ∷ false ∷ []
-unfolding crowd two account entry spelled little part payloadLength size cut chunks whole name shaped allShaped sound
+unfolding opened
 tables = refl
 
 -- a record that the file's end cuts off counts
 pub counts : count [] ∷ count two ∷ count (take 78 two) ∷ count (take 41 two) ∷ count (take 40 two) ∷ [] ≡ 0 ∷ 2 ∷ 2 ∷ 2 ∷ 1 ∷ []
-unfolding two account entry spelled little part payloadLength size cut chunks count
+unfolding opened
 counts = refl
 
 -- ---- found or not
@@ -96,30 +101,30 @@ counts = refl
 -- the number, the digest's place and the records read; a name's beginning is not the name
 pub searches : find (97 ∷ 98 ∷ []) two ∷ find (99 ∷ []) two ∷ find (97 ∷ []) two ∷ find [] two ∷ find (97 ∷ []) [] ∷ []
     ≡ At 0 6 1 ∷ At 1 46 2 ∷ Nowhere 2 ∷ Nowhere 2 ∷ Nowhere 0 ∷ []
-unfolding two account entry spelled little part payloadLength size cut chunks name sameBytes findFrom find
+unfolding opened
 searches = refl
 
 -- a record that the file's end cuts off is read too: 01 never asks that of a file that start has accepted
 pub cut-off : find (120 ∷ []) (take 50 two) ≡ Nowhere 2
-unfolding two account entry spelled little part payloadLength size cut chunks name sameBytes findFrom find
+unfolding opened
 cut-off = refl
 
 pub by-number : nameAt 0 two ∷ nameAt 1 two ∷ nameAt 2 two ∷ digestAt 1 two ∷ [] ≡ (97 ∷ 98 ∷ []) ∷ (99 ∷ []) ∷ [] ∷ replicate 32 8 ∷ []
-unfolding two account entry spelled little part payloadLength size cut chunks digestOf name recordAt nameAt digestAt
+unfolding opened
 by-number = refl
 
 -- ---- changed
 
 pub new-digest : withDigest 1 (replicate 32 9) two ≡ account 7 (97 ∷ 98 ∷ []) ++ account 9 (99 ∷ [])
-unfolding two account entry spelled little part over onPart onNth payloadLength size cut chunks join changed withDigest
+unfolding opened
 new-digest = refl
 
 -- "written from its first byte": the store took 50 bytes, so 4 of the new digest's
 pub broken-off : over (take 50 (withDigest 1 (replicate 32 9) two)) two
     ≡ account 7 (97 ∷ 98 ∷ []) ++ entry 2 (replicate 4 9 ++ (replicate 28 8 ++ (99 ∷ [])))
-unfolding two account entry spelled little part over onPart onNth payloadLength size cut chunks join changed withDigest
+unfolding opened
 broken-off = refl
 
 pub masked : maskDigests two ≡ account 0 (97 ∷ 98 ∷ []) ++ account 0 (99 ∷ [])
-unfolding two account entry spelled little part onPart payloadLength size cut chunks join zeros blanked maskDigests
+unfolding opened
 masked = refl
