@@ -26,13 +26,14 @@ unfoldable pub noZero : List ℕ → Bool
 noZero [] = true
 noZero (b ∷ l) = not (eqb b 0) && noZero l
 
--- "a name of 1 to 32 bytes, none zero"
-unfoldable pub proper : List ℕ → Bool
-proper n = leb 1 (length n) && (leb (length n) 32 && noZero n)
+-- "32 bytes of digest, then a name of 1 to 32 bytes": as long as its header says, with room for both. The name begins behind the whole digest, so the payload
+-- has 33 to 64 bytes
+unfoldable pub shaped : List ℕ → Bool
+shaped c = whole c && (leb 1 (length (name c)) && leb (length (name c)) 32)
 
--- a record that is as long as its header says and as 01 says; the name begins behind the whole digest, so the payload has 33 to 64 bytes
+-- "Kind 2", and no byte of the name zero
 unfoldable pub obeys : List ℕ → Bool
-obeys c = whole c && (eqb (kind c) 2 && proper (name c))
+obeys c = shaped c && (eqb (kind c) 2 && noZero (name c))
 
 -- what a change of the password writes: `new` over the digest, as much of it as there is
 unfoldable pub changed : List ℕ → List ℕ → List ℕ

@@ -1,17 +1,17 @@
 -- What the record view says of a record that is read, and what a change of the digest leaves of it.
-use mathlib.Core.Bool.{Bool, true, false, _&&_}
+use mathlib.Core.Bool.{Bool, true, false, _&&_, and-eq-true-iff}
 use mathlib.Core.List.{List, [], _∷_}
 use mathlib.Core.Path.{_≡_, refl, sym, ap, _∙_}
 use Prim.Native.Nat.{ℕ, suc, _+_, _≤_, compare·suc-suc}
 use native.Mathlib.Nat.{le-refl}
 use native.Mathlib.Omega.{arith}
-use borrow.Author.Tests.{ne-eqb}
-use lib.Dec.{eqb}
+use borrow.Author.Tests.{ne-eqb, leb-true}
+use lib.Dec.{eqb, leb}
 use lib.ListN.{length, take, drop, length-drop, length-replicate}
 use lib.Seq.{take-all}
 use Rattle.bytes.specs.Bytes.{indexOf, indexAfter}
 use Rattle.octets.specs.Lists.{part, over, onPart, writeAt, KeepsLength}
-use Rattle.octets.specs.PartLaws.{part-def, take-part}
+use Rattle.octets.specs.PartLaws.{part-def, take-part, length-part}
 use Rattle.octets.specs.OnPartLaws.{onPart-same, length-onPart, drop-onPart-behind, part-onPart-same, onPart-twice}
 use Rattle.octets.specs.WriteLaws.{length-over, writeAt-zero, onPart-writeAt}
 use Rattle.rows.specs.declared.Cursor.{Cursor}
@@ -22,7 +22,7 @@ use Rattle.rows.specs.LikeLaws.{whole-same}
 use Rattle.rows.specs.ChangeLaws.{alike-onPart}
 use Rattle.rows.specs.Steps.{stepAt}
 use Rattle.rows.specs.StepLaws.{Passed, step-passed, step-stopped, step-ended}
-use Rattle.passwords.specs.Account.{digestOf, name, noZero, proper, obeys, changed, zeros, blanked}
+use Rattle.passwords.specs.Account.{digestLength, digestOf, name, noZero, shaped, obeys, changed, zeros, blanked}
 
 -- ---- a record that is read
 
@@ -62,23 +62,47 @@ kind-read c k start n next p =
     let head : take 6 (part 0 (6 + n) c) ≡ take 6 c = take-part 6 0 (6 + n) c (omega arith) ∙ part-def 0 6 c in
     sym (kind-same (part 0 (6 + n) c) c head) ∙ p .of-kind
 
-pub obeys-read : (c : List ℕ) (k start n : ℕ) (next : Cursor) → stepAt c 0 ≡ Record k start n next
-    → obeys c ≡ (eqb (length c) (next .at) && (eqb k 2 && proper (name c)))
-unfolding obeys
-obeys-read c k start n next e =
-    let p = step-passed c 0 k start n next e in
-    rw (whole-read c k start n next p, kind-read c k start n next p)
+pub shaped-read : (c : List ℕ) (k start n : ℕ) (next : Cursor) → stepAt c 0 ≡ Record k start n next
+    → shaped c ≡ (eqb (length c) (next .at) && (leb 1 (length (name c)) && leb (length (name c)) 32))
+unfolding shaped
+shaped-read c k start n next e = rw (whole-read c k start n next (step-passed c 0 k start n next e))
 
-pub obeys-cut : (c : List ℕ) → stepAt c 0 ≡ Cut → obeys c ≡ false
-unfolding obeys
-obeys-cut c e = let w : whole c ≡ false = step-stopped c 0 e .1 in rw w
+pub shaped-cut : (c : List ℕ) → stepAt c 0 ≡ Cut → shaped c ≡ false
+unfolding shaped
+shaped-cut c e = let w : whole c ≡ false = step-stopped c 0 e .1 in rw w
 
-pub obeys-none : (c : List ℕ) → stepAt c 0 ≡ End → obeys c ≡ false
-unfolding obeys whole join
-obeys-none c e =
+pub shaped-none : (c : List ℕ) → stepAt c 0 ≡ End → shaped c ≡ false
+unfolding shaped whole join
+shaped-none c e =
     let nothing : c ≡ [] = sym (join-chunks c) ∙ ap join (step-ended c 0 e) in
     let w : whole [] ≡ false = ne-eqb 0 (size []) (λ z. absurd (omega (arith, six-size []))) in
     rw (nothing, w)
+
+pub obeys-read : (c : List ℕ) (k start n : ℕ) (next : Cursor) → stepAt c 0 ≡ Record k start n next → obeys c ≡ (shaped c && (eqb k 2 && noZero (name c)))
+unfolding obeys
+obeys-read c k start n next e = rw (kind-read c k start n next (step-passed c 0 k start n next e))
+
+pub obeys-unshaped : (c : List ℕ) → shaped c ≡ false → obeys c ≡ false
+unfolding obeys
+obeys-unshaped c e = rw e
+
+-- ---- a record that obeys
+
+pub both : (a b : Bool) → (a && b) ≡ true → (a ≡ true) × (b ≡ true)
+both a b e = and-eq-true-iff a b .0 e
+
+pub obeys-shaped : (c : List ℕ) → obeys c ≡ true → shaped c ≡ true
+unfolding obeys
+obeys-shaped c e = both (shaped c) (eqb (kind c) 2 && noZero (name c)) e .0
+
+pub shaped-digest : (c : List ℕ) → shaped c ≡ true → length (digestOf c) ≡ digestLength
+unfolding shaped digestOf name
+shaped-digest c e =
+    let n = drop 38 c in
+    let named = both (whole c) (leb 1 (length n) && leb (length n) 32) e .1 in
+    let some = leb-true 1 (length (drop 38 c)) (both (leb 1 (length n)) (leb (length n) 32) named .0) in
+    let long = length-drop 38 c in
+    length-part 6 32 c ∙ omega arith
 
 -- ---- a record that is changed
 
@@ -139,6 +163,10 @@ pub same-blanked : (c : List ℕ) → SameAccount c (blanked c)
 unfolding blanked
 same-blanked c = same-onPart zeros length-zeros c
 
+pub same-shaped : (c d : List ℕ) → SameAccount c d → shaped c ≡ shaped d
+unfolding shaped
+same-shaped c d s = rw (whole-same c d (s .0), s .1)
+
 pub same-obeys : (c d : List ℕ) → SameAccount c d → obeys c ≡ obeys d
 unfolding obeys
-same-obeys c d s = rw (whole-same c d (s .0), kind-same c d (s .0 .0), s .1)
+same-obeys c d s = rw (same-shaped c d s, kind-same c d (s .0 .0), s .1)

@@ -1,5 +1,5 @@
 -- A new digest in one record, whole or broken off after any number of bytes: which bytes it writes, and what stays.
-use mathlib.Core.Bool.{Bool, true, false, _&&_, and-eq-true-iff}
+use mathlib.Core.Bool.{true, false, _&&_}
 use mathlib.Core.List.{List, [], _∷_}
 use mathlib.Core.Logic.{_≢_}
 use mathlib.Core.Path.{_≡_, refl, sym, ap, _∙_}
@@ -7,21 +7,21 @@ use Prim.Native.Nat.{ℕ, zero, suc, _-_, _≤_, _<_, min}
 use native.Mathlib.Nat.{suc-ne-zero, suc-sub-suc, zero-sub, sub-zero, not-suc-le-zero, le-of-suc-le-suc}
 use native.Mathlib.Omega.{arith}
 use borrow.Author.Tests.{leb-true, leb-false}
-use lib.Dec.{eqb, leb}
-use lib.ListN.{length, take, drop, getD, length-take, length-drop}
+use lib.Dec.{leb}
+use lib.ListN.{length, take, getD, length-take}
 use lib.Seq.{take-take, take-all}
 use Rattle.octets.specs.Lists.{part, over, writeAt, onNth}
 use Rattle.octets.specs.PartLaws.{length-part, length-part-in}
 use Rattle.octets.specs.OnPartLaws.{onPart-same}
 use Rattle.octets.specs.NthLaws.{nth-onNth-other}
 use Rattle.octets.specs.WriteLaws.{length-over, over-nothing, over-same, over-front, over-take, writeAt-nil, onPart-writeAt}
-use Rattle.rows.specs.Records.{kind, chunks, whole}
+use Rattle.rows.specs.Records.{chunks}
 use Rattle.rows.specs.LikeLaws.{by-test}
-use Rattle.passwords.specs.Account.{digestOf, name, noZero, proper, obeys, changed}
-use Rattle.passwords.specs.AccountLaws.{changed-write, length-changed, digest-changed, same-changed}
+use Rattle.passwords.specs.Account.{digestStart, digestLength, digestOf, shaped, obeys, changed}
+use Rattle.passwords.specs.AccountLaws.{both, obeys-shaped, changed-write, length-changed, digest-changed, shaped-digest, same-changed}
 use Rattle.passwords.specs.Walk.{spanOf}
 use Rattle.passwords.specs.WalkLaws.{span-fits, span-change}
-use Rattle.passwords.specs.PasswordFile.{allObey, distinct, wellFormed, recordAt, digestAt, digestPlace, withDigest}
+use Rattle.passwords.specs.PasswordFile.{allObey, distinct, wellFormed, allShaped, sound, count, recordAt, digestAt, digestPlace, withDigest}
 use Rattle.passwords.specs.FileLaws.{record-part}
 use Rattle.passwords.specs.SameLaws.{SameUsers, same-onNth, same-chunks, same-users, users-length, users-wellFormed}
 
@@ -100,11 +100,11 @@ digest-other i j new file h = rw (record-other i j new file h)
 length-record : (i : ℕ) (file : List ℕ) → length (recordAt i file) ≡ spanOf i file .size
 length-record i file = rw (record-part i file) (length-part-in (spanOf i file .at) (spanOf i file .size) file (span-fits i file))
 
-room : (i : ℕ) (file : List ℕ) → min (spanOf i file .size - 6) 32 ≡ length (digestAt i file)
+room : (i : ℕ) (file : List ℕ) → min (spanOf i file .size - digestStart) digestLength ≡ length (digestAt i file)
 unfolding digestAt digestOf
 room i file =
     let long = length-record i file in
-    sym (length-part 6 32 (recordAt i file) ∙ omega arith)
+    sym (length-part digestStart digestLength (recordAt i file) ∙ omega arith)
 
 -- it is a write of as much of the new digest as there is room for
 pub changed-place : (i : ℕ) (new file : List ℕ) → withDigest i new file ≡ writeAt (digestPlace i file) (take (length (digestAt i file)) new) file
@@ -113,9 +113,9 @@ changed-place i new file =
     let at = spanOf i file .at in
     let n = spanOf i file .size in
     sym (span-change (changed new) (length-changed new) i file)
-    ∙ onPart-same at n (changed new) (writeAt 6 (take 32 new)) file (changed-write new (part at n file))
-    ∙ onPart-writeAt at n 6 (take 32 new) file
-    ∙ rw (take-least (n - 6) 32 new, room i file)
+    ∙ onPart-same at n (changed new) (writeAt digestStart (take digestLength new)) file (changed-write new (part at n file))
+    ∙ onPart-writeAt at n digestStart (take digestLength new) file
+    ∙ rw (take-least (n - digestStart) digestLength new, room i file)
 
 pub changed-write-at : (i : ℕ) (new file : List ℕ) → length new ≤ length (digestAt i file) → withDigest i new file ≡ writeAt (digestPlace i file) new file
 changed-write-at i new file h = rw (take-all (length (digestAt i file)) new h) at (changed-place i new file)
@@ -150,31 +150,37 @@ broken-wellFormed k i new file w =
     let s = broken-users k i new file in
     (sym (users-wellFormed s) ∙ w, sym (users-length s))
 
--- ---- a well-formed file
+-- ---- the digests' length
 
-both : (a b : Bool) → (a && b) ≡ true → (a ≡ true) × (b ≡ true)
-both a b e = and-eq-true-iff a b .0 e
+nth-shaped : (i : ℕ) (cs : List (List ℕ)) → allShaped cs ≡ true → i < length cs → shaped (getD cs i []) ≡ true
+unfolding allShaped
+nth-shaped i [] e h = absurd (not-suc-le-zero h)
+nth-shaped zero (c ∷ cs) e h = both (shaped c) (allShaped cs) e .0
+nth-shaped (suc i) (c ∷ cs) e h = nth-shaped i cs (both (shaped c) (allShaped cs) e .1) (le-of-suc-le-suc h)
 
-obeys-digest : (c : List ℕ) → obeys c ≡ true → length (digestOf c) ≡ 32
-unfolding obeys proper digestOf name
-obeys-digest c e =
-    let n = drop 38 c in
-    let of-kind = both (whole c) (eqb (kind c) 2 && proper n) e .1 in
-    let named = both (eqb (kind c) 2) (proper n) of-kind .1 in
-    let some = leb-true 1 (length (drop 38 c)) (both (leb 1 (length n)) (leb (length n) 32 && noZero n) named .0) in
-    let long = length-drop 38 c in
-    length-part 6 32 c ∙ omega arith
+pub digest-length : (i : ℕ) (file : List ℕ) → sound file ≡ true → i < count file → length (digestAt i file) ≡ digestLength
+unfolding digestAt recordAt sound count
+digest-length i file w h = shaped-digest (getD (chunks file) i []) (nth-shaped i (chunks file) (both (allShaped (chunks file)) (leb (count file) 64) w .0) h)
 
-nth-obeys : (i : ℕ) (cs : List (List ℕ)) → allObey cs ≡ true → i < length cs → obeys (getD cs i []) ≡ true
-unfolding allObey
-nth-obeys i [] e h = absurd (not-suc-le-zero h)
-nth-obeys zero (c ∷ cs) e h = both (obeys c) (allObey cs) e .0
-nth-obeys (suc i) (c ∷ cs) e h = nth-obeys i cs (both (obeys c) (allObey cs) e .1) (le-of-suc-le-suc h)
+-- a whole digest goes where the old one stood, whole, and is in force
+pub digest-put : (i : ℕ) (new file : List ℕ) → sound file ≡ true → i < count file → length new ≡ digestLength
+    → (withDigest i new file ≡ writeAt (digestPlace i file) new file) × (digestAt i (withDigest i new file) ≡ new)
+digest-put i new file w h e =
+    let long : length new ≡ length (digestAt i file) = e ∙ sym (digest-length i file w h) in
+    (changed-write-at i new file (omega arith), digest-new-whole i new file long)
 
-pub record-obeys : (i : ℕ) (file : List ℕ) → wellFormed file ≡ true → i < length (chunks file) → obeys (recordAt i file) ≡ true
-unfolding wellFormed recordAt
-record-obeys i file w h = nth-obeys i (chunks file) (both (allObey (chunks file)) (leb (length (chunks file)) 64 && distinct (chunks file)) w .0) h
+-- ---- a well-formed file is sound
 
-pub digest-length : (i : ℕ) (file : List ℕ) → wellFormed file ≡ true → i < length (chunks file) → length (digestAt i file) ≡ 32
-unfolding digestAt
-digest-length i file w h = obeys-digest (recordAt i file) (record-obeys i file w h)
+obeyed-shaped : (cs : List (List ℕ)) → allObey cs ≡ true → allShaped cs ≡ true
+unfolding allObey allShaped
+obeyed-shaped [] e = refl
+obeyed-shaped (c ∷ cs) e =
+    let h = both (obeys c) (allObey cs) e in
+    rw (obeys-shaped c (h .0), obeyed-shaped cs (h .1))
+
+pub well-formed-sound : (file : List ℕ) → wellFormed file ≡ true → sound file ≡ true
+unfolding wellFormed sound
+well-formed-sound file w =
+    let h = both (allObey (chunks file)) (leb (count file) 64 && distinct (chunks file)) w in
+    let few = both (leb (count file) 64) (distinct (chunks file)) (h .1) .0 in
+    rw (obeyed-shaped (chunks file) (h .0), few)

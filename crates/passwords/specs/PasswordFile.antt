@@ -9,10 +9,13 @@ use Rattle.octets.specs.Same.{sameBytes}
 use Rattle.rows.specs.Records.{chunks, join}
 use Rattle.passwords.specs.declared.Lookup.{Lookup}
 use Rattle.passwords.specs.declared.Lookup.the-variants.{At, Nowhere}
-use Rattle.passwords.specs.Account.{digestStart, digestOf, name, obeys, changed, blanked}
+use Rattle.passwords.specs.Account.{digestStart, digestOf, name, shaped, obeys, changed, blanked}
 use Rattle.passwords.specs.Walk.{spanOf}
 
 -- ---- well formed
+
+unfoldable pub count : List ℕ → ℕ
+count file = length (chunks file)
 
 unfoldable pub allObey : List (List ℕ) → Bool
 allObey [] = true
@@ -29,15 +32,24 @@ distinct (c ∷ cs) = not (named (name c) cs) && distinct cs
 
 -- every record obeys its kind, "at most 64 records, names distinct"; an empty file is well formed
 unfoldable pub wellFormed : List ℕ → Bool
-wellFormed file = allObey (chunks file) && (leb (length (chunks file)) 64 && distinct (chunks file))
+wellFormed file = allObey (chunks file) && (leb (count file) 64 && distinct (chunks file))
+
+-- what a table in memory must be to be read: its records end where it ends, each with room for a digest and a name, and there are at most 64
+-- (01, Calls: "a place or count, .. read in a password table, that leads outside its area")
+unfoldable pub allShaped : List (List ℕ) → Bool
+allShaped [] = true
+allShaped (c ∷ cs) = shaped c && allShaped cs
+
+unfoldable pub sound : List ℕ → Bool
+sound file = allShaped (chunks file) && leb (count file) 64
 
 -- ---- a record by its name
 
--- the first record with this name, of those from place `at` on, where `count` records were read before: its number, the place of its digest and "the records read,
+-- the first record with this name, of those from place `at` on, where so many records were read before: its number, the place of its digest and "the records read,
 -- up to and with the named one or all of them" (01, Login)
 unfoldable pub findFrom : List ℕ → ℕ → ℕ → List (List ℕ) → Lookup
-findFrom n count at [] = Nowhere count
-findFrom n count at (c ∷ cs) = cond (sameBytes (name c) n) (At count (at + digestStart) (count + 1)) (findFrom n (count + 1) (at + length c) cs)
+findFrom n before at [] = Nowhere before
+findFrom n before at (c ∷ cs) = cond (sameBytes (name c) n) (At before (at + digestStart) (before + 1)) (findFrom n (before + 1) (at + length c) cs)
 
 unfoldable pub find : List ℕ → List ℕ → Lookup
 find n file = findFrom n 0 0 (chunks file)
@@ -54,6 +66,7 @@ nameAt i file = name (recordAt i file)
 unfoldable pub digestAt : ℕ → List ℕ → List ℕ
 digestAt i file = digestOf (recordAt i file)
 
+-- where its digest stands in the file; behind the file's end where there is no such record
 unfoldable pub digestPlace : ℕ → List ℕ → ℕ
 digestPlace i file = spanOf i file .at + digestStart
 

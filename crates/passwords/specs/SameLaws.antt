@@ -8,9 +8,9 @@ use Rattle.rows.specs.Records.{chunks, join, Like, none, more}
 use Rattle.rows.specs.WalkLaws.{join-chunks}
 use Rattle.rows.specs.LikeLaws.{length-join, rechunk}
 use Rattle.passwords.specs.Account.{name}
-use Rattle.passwords.specs.AccountLaws.{SameAccount, same-obeys}
+use Rattle.passwords.specs.AccountLaws.{SameAccount, same-shaped, same-obeys}
 use Rattle.passwords.specs.Walk.{spanFrom, spanOf}
-use Rattle.passwords.specs.PasswordFile.{allObey, named, distinct, wellFormed, findFrom, find, recordAt, nameAt, digestPlace}
+use Rattle.passwords.specs.PasswordFile.{allObey, named, distinct, wellFormed, allShaped, sound, count, findFrom, find, recordAt, nameAt, digestPlace}
 
 -- the same accounts one by one
 pub data SameAccounts : List (List ℕ) → List (List ℕ) → Type 0 where
@@ -60,6 +60,11 @@ unfolding allObey
 same-allObey nobody = refl
 same-allObey (and {c} {d} s r) = rw (same-obeys c d s, same-allObey r)
 
+same-allShaped : {cs ds : List (List ℕ)} → SameAccounts cs ds → allShaped cs ≡ allShaped ds
+unfolding allShaped
+same-allShaped nobody = refl
+same-allShaped (and {c} {d} s r) = rw (same-shaped c d s, same-allShaped r)
+
 same-named : (n : List ℕ) {cs ds : List (List ℕ)} → SameAccounts cs ds → named n cs ≡ named n ds
 unfolding named
 same-named n nobody = refl
@@ -70,10 +75,10 @@ unfolding distinct
 same-distinct nobody = refl
 same-distinct (and {c} {d} s r) = rw (s .1, same-named (name d) r, same-distinct r)
 
-same-findFrom : (n : List ℕ) (count at : ℕ) {cs ds : List (List ℕ)} → SameAccounts cs ds → findFrom n count at cs ≡ findFrom n count at ds
+same-findFrom : (n : List ℕ) (before at : ℕ) {cs ds : List (List ℕ)} → SameAccounts cs ds → findFrom n before at cs ≡ findFrom n before at ds
 unfolding findFrom
-same-findFrom n count at nobody = refl
-same-findFrom n count at (and {c} {d} s r) = rw (s .1, s .0 .1, same-findFrom n (count + 1) (at + length d) r)
+same-findFrom n before at nobody = refl
+same-findFrom n before at (and {c} {d} s r) = rw (s .1, s .0 .1, same-findFrom n (before + 1) (at + length d) r)
 
 same-spanFrom : (at i : ℕ) {cs ds : List (List ℕ)} → SameAccounts cs ds → spanFrom at i cs ≡ spanFrom at i ds
 unfolding spanFrom
@@ -92,11 +97,16 @@ module _ {file other : List ℕ} (s : SameUsers file other) where
   pub users-length : length file ≡ length other
   users-length = ap length (sym (join-chunks file)) ∙ length-join (same-like (s .accounts)) ∙ ap length (join-chunks other)
 
-  pub users-count : length (chunks file) ≡ length (chunks other)
+  pub users-count : count file ≡ count other
+  unfolding count
   users-count = same-count (s .accounts)
 
+  pub users-sound : sound file ≡ sound other
+  unfolding sound count
+  users-sound = rw (same-allShaped (s .accounts), same-count (s .accounts))
+
   pub users-wellFormed : wellFormed file ≡ wellFormed other
-  unfolding wellFormed
+  unfolding wellFormed count
   users-wellFormed = rw (same-allObey (s .accounts), same-count (s .accounts), same-distinct (s .accounts))
 
   -- with its number, the place of its digest and the count

@@ -1,5 +1,5 @@
 -- The records of a password file one by one. A record that the file's end cuts off is a record too, the last one: it goes to the end, is read and counted
--- like any other, and only `obeys` refuses it. A well-formed file has none.
+-- like any other, and only `shaped` refuses it. A well-formed file has none.
 use mathlib.Core.List.{List, [], _∷_}
 use Prim.Native.Nat.{ℕ, zero, suc, _+_}
 use lib.ListN.{length}

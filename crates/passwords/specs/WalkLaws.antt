@@ -20,7 +20,8 @@ use Rattle.rows.specs.StepLaws.{step-passed, step-stopped, step-ended}
 use Rattle.passwords.specs.declared.walk.Reading.the-variants.{Record, End}
 use Rattle.passwords.specs.Walk.{readingOf, spanFrom, spanOf}
 
-clash : {P : Type 0} → _≡_ {A = ℕ} 0 1 → P
+-- two numbers that are not the same, as `cc` tells two variants apart
+pub clash : {P : Type 0} → _≡_ {A = ℕ} 0 1 → P
 clash e = absurd (omega arith)
 
 -- ---- the first record from a place on

@@ -4,7 +4,7 @@ use octets::search;
 use rows::Cursor;
 use rows::Step;
 ghost use mathlib.Core.Path.{_≡_};
-ghost use Rattle.passwords.specs.Account.{name, digestOf, proper, obeys, changed};
+ghost use Rattle.passwords.specs.Account.{name, digestOf, noZero, shaped, obeys, changed};
 
 // Behind the header.
 pub(crate) const DIGEST_START: usize = 6;
@@ -25,15 +25,35 @@ pub(crate) fn digest(entry: &[u8]) -> &[u8]
     parts::piece(entry, DIGEST_START, DIGEST_LENGTH)
 }
 
-// Whether a name is one of 1 to 32 bytes, none zero.
-fn proper(title: &[u8]) -> bool
-    ensures { λ r. ⌜ r ≡ proper (now (title .entry)) ⌝ }
+// Whether no byte is zero.
+fn no_zero(title: &[u8]) -> bool
+    ensures { λ r. ⌜ r ≡ noZero (now (title .entry)) ⌝ }
 {
     let zero = search::first_zero(title, title.len());
-    (1 <= title.len()) & ((title.len() <= 32) & (zero == title.len()))
+    zero == title.len()
 }
 
-// Whether the record is whole, of kind 2, and has a proper name.
+// Whether the record is as long as its header says and has room for a digest and a name of 1 to 32 bytes.
+pub(crate) fn shaped(entry: &[u8]) -> bool
+    ensures { λ r. ⌜ r ≡ shaped (now (entry .entry)) ⌝ }
+{
+    match Cursor::new().read(entry) {
+        Step::Record {
+            kind: _,
+            start: _,
+            count: _,
+            next,
+        } => {
+            let end = next.at;
+            let title = name(entry);
+            (entry.len() == end) & ((1 <= title.len()) & (title.len() <= 32))
+        }
+        Step::Cut => false,
+        Step::End => false,
+    }
+}
+
+// Whether the record is of that shape, of kind 2, and has no zero in its name.
 pub(crate) fn obeys(entry: &[u8]) -> bool
     ensures { λ r. ⌜ r ≡ obeys (now (entry .entry)) ⌝ }
 {
@@ -42,11 +62,11 @@ pub(crate) fn obeys(entry: &[u8]) -> bool
             kind,
             start: _,
             count: _,
-            next,
+            next: _,
         } => {
-            let end = next.at;
-            let good = proper(name(entry));
-            (entry.len() == end) & ((kind == 2) & good)
+            let fits = shaped(entry);
+            let good = no_zero(name(entry));
+            fits & ((kind == 2) & good)
         }
         Step::Cut => false,
         Step::End => false,

@@ -12,7 +12,9 @@ ghost use mathlib.Core.Path.{_≡_};
 ghost use lib.ListN.{take};
 ghost use Rattle.octets.specs.Lists.{over};
 ghost use Rattle.rows.specs.Records.{chunks};
-ghost use Rattle.passwords.specs.PasswordFile.{named, wellFormed, find, nameAt, digestAt, withDigest};
+ghost use Rattle.passwords.specs.PasswordFile.{named, wellFormed, sound, count, find, nameAt, digestAt, withDigest};
+
+const MOST_RECORDS: usize = 64;
 
 // Where a name stands.
 pub enum Lookup {
@@ -77,7 +79,7 @@ pub fn well_formed(file: &[u8]) -> bool
         let Reading::Record { size, count } = reading else {
             return true;
         };
-        if 64 <= before {
+        if MOST_RECORDS <= before {
             return false;
         }
         let entry = parts::piece(file, at, size);
@@ -89,6 +91,44 @@ pub fn well_formed(file: &[u8]) -> bool
         if named(parts::piece(file, at, file.len()), account::name(entry)) {
             return false;
         }
+    }
+}
+
+// Whether a table in memory can be read: every record ends inside it and has room for a digest and a name, and there are at most 64.
+pub fn sound(file: &[u8]) -> bool
+    ensures { λ r. ⌜ r ≡ sound (now (file .entry)) ⌝ }
+{
+    let mut at = 0;
+    let mut before = 0;
+    loop {
+        let reading = walk::read(file, at, before);
+        let Reading::Record { size, count } = reading else {
+            return true;
+        };
+        if MOST_RECORDS <= before {
+            return false;
+        }
+        if !account::shaped(parts::piece(file, at, size)) {
+            return false;
+        }
+        at += size;
+        before = count;
+    }
+}
+
+// How many records there are.
+pub fn count(file: &[u8]) -> usize
+    ensures { λ r. ⌜ r ≡ count (now (file .entry)) ⌝ }
+{
+    let mut at = 0;
+    let mut before = 0;
+    loop {
+        let reading = walk::read(file, at, before);
+        let Reading::Record { size, count } = reading else {
+            return before;
+        };
+        at += size;
+        before = count;
     }
 }
 

@@ -18,7 +18,9 @@ abbrev μ-loop : tie.MeasureT-loop
 μ-loop file name at₀ before₀ at before = length file - at
 
 -- what is known once a record was read
-took : (c : tie.After-known-told Inv-loop μ-loop) → Taken (c .before .before .before .before .before .before .before .args .file .now) (c .before .before .before .before .loop .at) (c .before .before .before .before .loop .before) (c .before .reading .given .0 .0) (c .before .reading .given .0 .1 .0)
+took : (c : tie.After-known-told Inv-loop μ-loop)
+    → Taken (c .before .before .before .before .before .before .before .args .file .now) (c .before .before .before .before .loop .at) (c .before .before .before .before .loop .before)
+    (c .before .reading .given .0 .0) (c .before .reading .given .0 .1 .0)
 took c = taken _ _ _ _ _ (sym (c .before .before .before .read .ensures) ∙ c .before .reading .given .1)
 
 loop-holds : tie.Need-loop-holds Inv-loop μ-loop
@@ -35,7 +37,11 @@ enum-told : tie.Need-enum-told Inv-loop μ-loop
 enum-told c = search needs
 
 returns : tie.Need-returns Inv-loop μ-loop
-returns c = let args = c .before .before .before .before .before .before .args in sym (c .before .before .before .loop .inv .0 ∙ find-none (args .name .now) (c .before .before .before .loop .before) (c .before .before .before .loop .at) (args .file .now) (ended (args .file .now) (c .before .before .before .loop .at) (c .before .before .before .loop .before) (sym (c .before .before .read .ensures) ∙ c .enum-told .given .1)))
+returns c =
+    let loop = c .before .before .before .loop in
+    let args = c .before .before .before .before .before .before .args in
+    let end = ended (args .file .now) (loop .at) (loop .before) (sym (c .before .before .read .ensures) ∙ c .enum-told .given .1) in
+    sym (loop .inv .0 ∙ find-none (args .name .now) (loop .before) (loop .at) (args .file .now) end)
 
 piece-requires : tie.Need-piece-requires Inv-loop μ-loop
 piece-requires c κs = search needs
@@ -50,7 +56,10 @@ add-t11 : tie.Need-add-t11 Inv-loop μ-loop
 add-t11 c = let t = took (c .before .before .before .before) in record { fits = omega arith }
 
 returns-2 : tie.Need-returns-2 Inv-loop μ-loop
-returns-2 c = sym (c .before .before .before .before .before .before .before .before .loop .inv .0 ∙ find-here _ _ _ _ _ _ (took (c .before .before .before .before)) (rw (c .before .before .name .ensures, c .before .before .before .piece .ensures) at (sym (c .before .same .ensures) ∙ c .if1 .taken)))
+returns-2 c =
+    let read = c .before .before .before .before in
+    let same = rw (c .before .before .name .ensures, c .before .before .before .piece .ensures) at (sym (c .before .same .ensures) ∙ c .if1 .taken) in
+    sym (read .before .before .before .before .loop .inv .0 ∙ find-here _ _ _ _ _ _ (took read) same)
 
 add-at : tie.Need-add-at Inv-loop μ-loop
 add-at c = let t = took (c .before .before .before .before) in record { fits = omega arith }
@@ -60,8 +69,10 @@ loop-less c = let t = took (c .before .before .before .before) in omega arith
 
 loop-again : tie.Need-loop-again Inv-loop μ-loop
 loop-again c =
-    let t = took (c .before .before .before .before) in
-    (c .before .before .before .before .before .before .before .before .loop .inv .0 ∙ find-on _ _ _ _ _ _ t (rw (c .before .before .name .ensures, c .before .before .before .piece .ensures) at (sym (c .before .same .ensures) ∙ c .if1 .left)), omega arith, omega arith)
+    let read = c .before .before .before .before in
+    let same = rw (c .before .before .name .ensures, c .before .before .before .piece .ensures) at (sym (c .before .same .ensures) ∙ c .if1 .left) in
+    let t = took read in
+    (read .before .before .before .before .loop .inv .0 ∙ find-on _ _ _ _ _ _ t same, omega arith, omega arith)
 
 pub find-spec : {M : Type 1} → statement M
 find-spec = tie.close (tie.spec Inv-loop μ-loop loop-holds read-requires enum-known-reading enum-told returns piece-requires name-requires same-requires add-t11 returns-2 add-at loop-less loop-again)

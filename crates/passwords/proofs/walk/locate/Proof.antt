@@ -18,7 +18,9 @@ abbrev μ-loop : tie.MeasureT-loop
 μ-loop file i at₀ before₀ at before = length file - at
 
 -- what is known once a record was read
-took : (c : tie.After-known-told Inv-loop μ-loop) → Taken (c .before .before .before .before .before .before .args .file .now) (c .before .before .before .before .loop .at) (c .before .before .before .before .loop .before) (c .before .reading .given .0 .0) (c .before .reading .given .0 .1 .0)
+took : (c : tie.After-known-told Inv-loop μ-loop)
+    → Taken (c .before .before .before .before .before .before .args .file .now) (c .before .before .before .before .loop .at) (c .before .before .before .before .loop .before)
+    (c .before .reading .given .0 .0) (c .before .reading .given .0 .1 .0)
 took c = taken _ _ _ _ _ (sym (c .before .before .before .read .ensures) ∙ c .before .reading .given .1)
 
 loop-holds : tie.Need-loop-holds Inv-loop μ-loop
@@ -35,7 +37,11 @@ enum-told : tie.Need-enum-told Inv-loop μ-loop
 enum-told c = search needs
 
 returns : tie.Need-returns Inv-loop μ-loop
-returns c = let args = c .before .before .before .before .before .args in sym (c .before .before .before .loop .inv .0 ∙ span-none (args .file .now) (c .before .before .before .loop .at) (args .i - c .before .before .before .loop .before) (ended (args .file .now) (c .before .before .before .loop .at) (c .before .before .before .loop .before) (sym (c .before .before .read .ensures) ∙ c .enum-told .given .1)))
+returns c =
+    let loop = c .before .before .before .loop in
+    let args = c .before .before .before .before .before .args in
+    let end = ended (args .file .now) (loop .at) (loop .before) (sym (c .before .before .read .ensures) ∙ c .enum-told .given .1) in
+    sym (loop .inv .0 ∙ span-none (args .file .now) (loop .at) (args .i - loop .before) end)
 
 returns-2 : tie.Need-returns-2 Inv-loop μ-loop
 returns-2 c =
