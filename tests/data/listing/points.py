@@ -142,8 +142,9 @@ point(b'A\nCODE[0] = /c; ?\n', refused(404, 1), 'begins on the line on which ano
 point(b'A\nCODE[0] = /c\nDSEG[0] = { /d, 0, RW };\n', refused(404, 1), 'no semicolon: the first statement is the broken one')
 point(b'A\nCODE[0] = /c', refused(404, 1), 'no semicolon, and the text ends')
 for bad in (b'C', b'CODE', b'CODE[', b'CODE[0', b'CODE[0]', b'CODE[0] =', b'CODE[0] = "', b'CODE[0] = "/c', b'CODE[0] = "/c"',
-            b'DSEG[0] = {', b'DSEG[0] = { /d', b'DSEG[0] = { /d,', b'DSEG[0] = { /d, 0', b'DSEG[0] = { /d, 0,', b'DSEG[0] = { /d, 0, R',
-            b'DSEG[0] = { /d, 0, RW', b'DSEG[0] = { /d, 0, RW }', b'MSEG[0] = {', b'MSEG[0] = { 1', b'MSEG[0] = { 1K'):
+            b'DSEG[0] = {', b'DSEG[0] = { /d', b'DSEG[0] = { /d,', b'DSEG[0] = { /d, 0', b'DSEG[0] = { /d, 0,',
+            b'DSEG[0] = { /d, 0, R', b'DSEG[0] = { /d, 0, RW',
+            b'DSEG[0] = { /d, 0, RW }', b'MSEG[0] = {', b'MSEG[0] = { 1', b'MSEG[0] = { 1K'):
     point(b'A\n\n' + bad, refused(404, 2), 'cut off')
 for bad in (b'code[0] = /c;', b'Code[0] = /c;', b'CODEX[0] = /c;', b'XCODE[0] = /c;', b'GSEG[0] = { 1, 0, RW };', b'CODE(0) = /c;',
             b'CODE 0 = /c;', b'CODE[] = /c;', b'CODE[-0] = /c;', b'CODE[+0] = /c;', b'CODE[0x0] = /c;', b'CODE[0 0] = /c;',
@@ -151,7 +152,8 @@ for bad in (b'code[0] = /c;', b'Code[0] = /c;', b'CODEX[0] = /c;', b'XCODE[0] = 
             b'CODE[0] = /c,', b'DSEG[0] = /d;', b'DSEG[0] = { 1, 0, RW };', b'MSEG[0] = { /d, 0, RW };', b'MSEG[0] = 1, 0, RW;'):
     point(b'A\n' + bad + b'\nCODE[0] = /c;\n', refused(404, 1), 'not what 003 writes')
 for bad in (b'{ /d, 0, rw }', b'{ /d, 0, RX }', b'{ /d, 0, R W }', b'{ /d, 0, RWX }', b'{ /d, 0, RWRW }', b'{ /d, 0, RW RW }',
-            b'{ /d, 0, RW; RW }', b'{ /d, 0, "RW" }', b'{ /d, , RW }', b'{ /d, RW, 0 }', b'{ /d 0, RW }', b'{ /d, 0 RW }', b'{ /d,, 0, RW }',
+            b'{ /d, 0, RW; RW }', b'{ /d, 0, "RW" }', b'{ /d, , RW }', b'{ /d, RW, 0 }', b'{ /d 0, RW }',
+            b'{ /d, 0 RW }', b'{ /d,, 0, RW }',
             b'{ , /d, 0, RW }', b'{ /d, 0,, RW }', b'( /d, 0, RW )', b'{ { /d, 0, RW } }', b'{ /d, 0, RW } }', b'{ /d, 0KB, RW }'):
     point(dseg(bad), refused(404, 2), 'not what 003 writes')
 point(dseg(b'{ /d, 0 }'), refused(404, 2), 'no permission at all: 003 asks for one or more')
@@ -239,7 +241,8 @@ point(mseg(b'4294967295'), refused(412, 2), 'the largest number')
 point(mseg(b'4294967295GB'), refused(412, 2), 'the largest number and unit')
 point(mseg(b'4294967296'), refused(404, 2), 'no number')
 point(mseg(b'4294967296KB'), refused(404, 2), 'the limit is for the digits: 404 before 412')
-for bad in b'2 KB', b'2\tKB', b'2\nKB', b'2kb', b'2Kb', b'2K', b'2K B', b'2B', b'2TB', b'2KBMB', b'2KB0', b'KB', b'', b'-1', b'1.5KB', b'1,024':
+for bad in (b'2 KB', b'2\tKB', b'2\nKB', b'2kb', b'2Kb', b'2K', b'2K B', b'2B', b'2TB', b'2KBMB', b'2KB0', b'KB', b'', b'-1', b'1.5KB',
+            b'1,024'):
     point(mseg(bad), refused(404, 2), 'not a size')
 
 # 405 and 406.
