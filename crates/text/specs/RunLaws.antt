@@ -13,8 +13,9 @@ use Rattle.octets.specs.Lists.{part}
 use Rattle.octets.specs.PartLaws.{length-part}
 use Rattle.octets.specs.Same.{sameBytes, same-eq}
 use Rattle.text.specs.Bytes.{byteAt, isDigit, inPath, inBarePath}
+use Rattle.text.specs.Gaps.{tokenPlace}
 use Rattle.text.specs.Steps.{split}
-use Rattle.text.specs.Tokens.{run, decimalFrom, numberFrom, pathOf, quotedPath, barePath}
+use Rattle.text.specs.Tokens.{run, decimalFrom, numberFrom, numberAt, pathOf, quotedPath, barePath}
 use Rattle.text.specs.declared.Number.the-variants as number
 use Rattle.text.specs.declared.Path.the-variants as path
 
@@ -76,6 +77,12 @@ number-capped text p next v e f =
     rw (z, apart, same, g, e)))
 
 -- ---- what the code's tests and places say of the definitions
+
+pub number-told : (text piece : List ℕ) (at p next v : ℕ) {t : Bool} → p ≡ tokenPlace text at → next ≡ p + run isDigit (drop p text)
+    → piece ≡ part p (next - p) text → v ≡ min (decimalFrom 0 piece) 4294967296 → (eqb next p || ltb 4294967295 v) ≡ t
+    → cond t number.Bad (number.Is v next) ≡ numberAt text at
+unfolding numberAt
+number-told text piece at p next v place end part value e = rw (← place, ← e) (number-capped text p next v end (rw part at value))
 
 -- r is the test's answer, and the piece is that part of the text
 pub told : (piece row word : List ℕ) {r t : Bool} → piece ≡ row → r ≡ sameBytes piece word → r ≡ t → sameBytes row word ≡ t

@@ -1,3 +1,4 @@
+-- `text::gaps::feed` meets its contract. Assumes nothing.
 use borrow.Author.Tests.{eq-eqb, ne-eqb}
 use Rattle.text.proofs.gaps.feed.Statement.{statement}
 use Rattle.text.proofs.gaps.feed.Tie as tie

@@ -1,3 +1,4 @@
+-- `text::gaps::gap_on` meets its contract. Assumes nothing.
 use borrow.Author.Needs.{needs}
 use Rattle.text.proofs.gaps.gap_on.Statement.{statement}
 use Rattle.text.proofs.gaps.gap_on.Tie as tie

@@ -1,3 +1,4 @@
+-- `text::runs::in_bare_path` meets its contract. Assumes nothing.
 use borrow.Author.Needs.{needs}
 use Rattle.text.proofs.runs.in_bare_path.Statement.{statement}
 use Rattle.text.proofs.runs.in_bare_path.Tie as tie
