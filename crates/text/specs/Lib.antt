@@ -7,3 +7,5 @@ pub mod Steps
 pub mod GapLaws
 pub mod RunLaws
 pub mod Sound
+pub mod CommentLaws
+pub mod BlankedLaws

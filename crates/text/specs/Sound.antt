@@ -11,7 +11,7 @@ use Rattle.octets.specs.Lists.{part}
 use Rattle.octets.specs.Same.{sameBytes}
 use Rattle.text.specs.Bytes.{byteAt, isDigit, inPath, inBarePath}
 use Rattle.text.specs.Gaps.{tokenPlace}
-use Rattle.text.specs.GapLaws.{place-ge, place-le, byte-inside}
+use Rattle.text.specs.GapLaws.{place-ge, place-le, place-twice, byte-inside}
 use Rattle.text.specs.RunLaws.{run-fits, run-all-at, same-fits}
 use Rattle.text.specs.Steps.{split}
 use Rattle.text.specs.Tokens.{run, wordAt, decimalFrom, numberFrom, numberAt, sized, withUnit, sizeAt, pathOf, quotedPath, barePath, pathAt}
@@ -202,3 +202,21 @@ path-read text at start n next e =
     split (eqb (byteAt text p) 34)
     (λ t. path-later text at (p + 1) start n next (omega arith) (quoted-read text (p + 1) start n next (rw t at e)))
     (λ t. path-later text at p start n next (omega arith) (bare-read text p start n next (rw t at e)))
+
+-- ---- a token is read from its own place as from before the gap
+
+pub word-here : (word text : List ℕ) (at : ℕ) → wordAt word text (tokenPlace text at) ≡ wordAt word text at
+unfolding wordAt
+word-here word text at = rw place-twice
+
+pub number-here : (text : List ℕ) (at : ℕ) → numberAt text (tokenPlace text at) ≡ numberAt text at
+unfolding numberAt
+number-here text at = rw place-twice
+
+pub size-here : (text : List ℕ) (at : ℕ) → sizeAt text (tokenPlace text at) ≡ sizeAt text at
+unfolding sizeAt
+size-here text at = rw number-here
+
+pub path-here : (text : List ℕ) (at : ℕ) → pathAt text (tokenPlace text at) ≡ pathAt text at
+unfolding pathAt
+path-here text at = rw place-twice
