@@ -1,23 +1,23 @@
 -- The comment rule twice: read from a place outside comments, every token of a text is that of the text with its comments blanked, and
 -- the place behind it is outside comments again.
-use mathlib.Core.Bool.{Bool, true, false, _&&_, _||_, not, and-eq-true-iff, false≢true}
+use mathlib.Core.Bool.{Bool, true, false, _&&_, not, and-eq-true-iff, false≢true}
 use mathlib.Core.List.{List, [], _∷_}
 use mathlib.Core.Path.{_≡_, refl, sym, ap, _∙_}
-use Prim.Native.Nat.{ℕ, _+_, _-_, _*_}
-use native.Mathlib.Omega.{arith}
+use Prim.Native.Nat.{ℕ, _+_, _-_}
 use borrow.Author.Tests.{eqb-true, eqb-false, ne-eqb, not-true}
-use lib.Dec.{eqb, leb, ltb}
+use lib.Dec.{eqb}
 use lib.ListN.{length, take, drop}
 use lib.Seq.{getD-drop}
 use Rattle.octets.specs.Lists.{part}
 use Rattle.octets.specs.Same.{sameBytes, same-eq}
+use Rattle.text.specs.Answers.{no-number, word-is, number-is, sized-cases, path-of-is, quoted-is}
 use Rattle.text.specs.Bytes.{byteAt, isDigit, inPath, inBarePath}
 use Rattle.text.specs.Gaps.{tokenPlace, lineOf}
 use Rattle.text.specs.Comments.{blankedFrom, blanked, commentBehind, Outside, plain}
 use Rattle.text.specs.CommentLaws.{outside-drop, outside-bytes, outside-byte, outside-run, outside-place, place-blanked, line-blanked, byte-drop, behind-nil, behind-cons}
 use Rattle.text.specs.Steps.{split}
-use Rattle.text.specs.Tokens.{run, wordAt, decimalFrom, numberFrom, numberAt, sized, withUnit, sizeAt, pathOf, quotedPath, barePath, pathAt}
-use Rattle.text.specs.declared.Mark.the-variants.{Behind, Absent}
+use Rattle.text.specs.Tokens.{run, wordAt, numberFrom, numberAt, sized, withUnit, sizeAt, pathOf, quotedPath, barePath, pathAt}
+use Rattle.text.specs.declared.Mark.the-variants.{Behind}
 use Rattle.text.specs.declared.Number.{Number}
 use Rattle.text.specs.declared.Number.the-variants as number
 use Rattle.text.specs.declared.Path.the-variants as path
@@ -58,18 +58,10 @@ unfolding wordAt
 word-blanked word text at e h = rw (place-blanked text at h, part-same word text (tokenPlace text at) (outside-place text at h) e)
 
 pub word-outside : (word text : List ℕ) (at next : ℕ) → plain word ≡ true → Outside text at → wordAt word text at ≡ Behind next → Outside text next
-unfolding wordAt
 word-outside word text at next e h r =
     let p = tokenPlace text at in
-    split (sameBytes (part p (length word) text) word)
-    (λ t.
-    let q : Behind (p + length word) ≡ Behind next = rw t at r in
-    let n : p + length word ≡ next = cc in
-    rw n at (outside-bytes text p word (outside-place text at h) (same-eq (part p (length word) text) word t) (plain-calm word e)))
-    (λ t.
-    let q : Absent ≡ Behind next = rw t at r in
-    let z : _≡_ {A = ℕ} 0 1 = cc in
-    absurd (omega arith))
+    let told = word-is word text at next r in
+    rw (told .1) at (outside-bytes text p word (outside-place text at h) (same-eq (part p (length word) text) word (told .0)) (plain-calm word e))
 
 -- ---- runs
 
@@ -98,20 +90,10 @@ unfolding numberAt
 number-blanked text at h = rw (place-blanked text at h) (number-from-blanked text (tokenPlace text at) (outside-place text at h))
 
 pub number-outside : (text : List ℕ) (at value next : ℕ) → Outside text at → numberAt text at ≡ number.Is value next → Outside text next
-unfolding numberAt numberFrom
+unfolding numberAt
 number-outside text at value next h r =
     let p = tokenPlace text at in
-    let n = run isDigit (drop p text) in
-    let v = decimalFrom 0 (part p n text) in
-    split (eqb n 0 || ltb 4294967295 v)
-    (λ t.
-    let q : number.Bad ≡ number.Is value next = rw t at r in
-    let z : _≡_ {A = ℕ} 0 1 = cc in
-    absurd (omega arith))
-    (λ t.
-    let q : number.Is v (p + n) ≡ number.Is value next = rw t at r in
-    let e : p + n ≡ next = cc in
-    rw e at (outside-run isDigit refl text p (outside-place text at h)))
+    rw (number-is text p value next r .2) at (outside-run isDigit refl text p (outside-place text at h))
 
 sized-blanked : (value : ℕ) (text : List ℕ) (p : ℕ) → Outside text p → sized value (blanked text) p ≡ sized value text p
 unfolding sized plain
@@ -126,31 +108,13 @@ size-blanked text at h = rw (number-blanked text at h) (go (numberAt text at) re
     go (number.Is value p) e = sized-blanked value text p (number-outside text at value p h e)
     go number.Bad e = refl
 
-unit-outside : (text : List ℕ) (p a b next : ℕ) → Outside text p → sameBytes (part p 2 text) (a ∷ b ∷ []) ≡ true → plain (a ∷ b ∷ []) ≡ true
-    → p + 2 ≡ next → Outside text next
-unit-outside text p a b next h t e n =
-    rw n at (outside-bytes text p (a ∷ b ∷ []) h (same-eq (part p 2 text) (a ∷ b ∷ []) t) (plain-calm (a ∷ b ∷ []) e))
-
 sized-outside : (value : ℕ) (text : List ℕ) (p size next : ℕ) → Outside text p → sized value text p ≡ number.Is size next → Outside text next
-unfolding sized plain
-sized-outside value text p size next h e =
-    let unit = part p 2 text in
-    split (sameBytes unit (75 ∷ 66 ∷ []))
-    (λ t.
-    let q : number.Is (value * 1024) (p + 2) ≡ number.Is size next = rw t at e in
-    unit-outside text p 75 66 next h t refl (cc))
-    (λ t. split (sameBytes unit (77 ∷ 66 ∷ []))
-    (λ u.
-    let q : number.Is (value * 1048576) (p + 2) ≡ number.Is size next = rw (t, u) at e in
-    unit-outside text p 77 66 next h u refl (cc))
-    (λ u. split (sameBytes unit (71 ∷ 66 ∷ []))
-    (λ w.
-    let q : number.Is (value * 1073741824) (p + 2) ≡ number.Is size next = rw (t, u, w) at e in
-    unit-outside text p 71 66 next h w refl (cc))
-    (λ w.
-    let q : number.Is value p ≡ number.Is size next = rw (t, u, w) at e in
-    let n : p ≡ next = cc in
-    rw n at h)))
+sized-outside value text p size next h =
+    sized-cases (λ r. r ≡ number.Is size next → Outside text next) value text p
+    (λ q. let n : p ≡ next = cc in rw n at h)
+    (λ k a b most free t q.
+    let n : p + 2 ≡ next = cc in
+    rw n at (outside-bytes text p (a ∷ b ∷ []) h (same-eq (part p 2 text) (a ∷ b ∷ []) t) (plain-calm (a ∷ b ∷ []) free)))
 
 pub size-outside : (text : List ℕ) (at size next : ℕ) → Outside text at → sizeAt text at ≡ number.Is size next → Outside text next
 unfolding sizeAt withUnit
@@ -158,7 +122,7 @@ size-outside text at size next h e = go (numberAt text at) refl e
   where
     go : (r : Number) → numberAt text at ≡ r → withUnit text r ≡ number.Is size next → Outside text next
     go (number.Is value p) f g = sized-outside value text p size next (number-outside text at value p h f) g
-    go number.Bad f g = let z : _≡_ {A = ℕ} 0 1 = cc in absurd (omega arith)
+    go number.Bad f g = absurd (no-number size next g)
 
 -- ---- paths
 
@@ -243,34 +207,17 @@ path-blanked text at h =
     (λ t. rw t (quoted-blanked text (p + 1) (quote-outside text p o t)))
     (λ t. rw t (bare-blanked text p o)))
 
-path-of-next : (text : List ℕ) (p k behind start n next : ℕ) → pathOf text p k behind ≡ path.Is start n next → behind ≡ next
-unfolding pathOf
-path-of-next text p k behind start n next e =
-    split (eqb (byteAt text p) 47 && (leb 2 k && leb k 63))
-    (λ t. let q : path.Is p k behind ≡ path.Is start n next = rw t at e in (cc))
-    (λ t.
-    let q : path.Bad ≡ path.Is start n next = rw t at e in
-    let z : _≡_ {A = ℕ} 0 1 = cc in
-    absurd (omega arith))
-
 quoted-outside : (text : List ℕ) (p start n next : ℕ) → Outside text p → quotedPath text p ≡ path.Is start n next → Outside text next
-unfolding quotedPath
 quoted-outside text p start n next h e =
     let k = run inPath (drop p text) in
-    split (eqb (byteAt text (p + k)) 34)
-    (λ t.
-    let q : pathOf text p k (p + k + 1) ≡ path.Is start n next = rw t at e in
-    rw (path-of-next text p k (p + k + 1) start n next q) at (quote-outside text (p + k) (outside-run inPath refl text p h) t))
-    (λ t.
-    let q : path.Bad ≡ path.Is start n next = rw t at e in
-    let z : _≡_ {A = ℕ} 0 1 = cc in
-    absurd (omega arith))
+    let told = quoted-is text p start n next e in
+    rw (path-of-is text p k (p + k + 1) start n next (told .1) .5) at (quote-outside text (p + k) (outside-run inPath refl text p h) (told .0))
 
 bare-outside : (text : List ℕ) (p start n next : ℕ) → Outside text p → barePath text p ≡ path.Is start n next → Outside text next
 unfolding barePath
 bare-outside text p start n next h e =
     let k = run inBarePath (drop p text) in
-    rw (path-of-next text p k (p + k) start n next e) at (outside-run inBarePath refl text p h)
+    rw (path-of-is text p k (p + k) start n next e .5) at (outside-run inBarePath refl text p h)
 
 pub path-outside : (text : List ℕ) (at start n next : ℕ) → Outside text at → pathAt text at ≡ path.Is start n next → Outside text next
 unfolding pathAt

@@ -6,6 +6,7 @@ pub mod Tokens
 pub mod Steps
 pub mod GapLaws
 pub mod RunLaws
+pub mod Answers
 pub mod Sound
 pub mod CommentLaws
 pub mod BlankedLaws

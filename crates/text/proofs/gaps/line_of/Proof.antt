@@ -17,7 +17,10 @@ line-feeds-requires : tie.Need-line-feeds-requires
 line-feeds-requires c κs = search needs
 
 add-result : tie.Need-add-result
-add-result c = omega (arith, c .line-feeds .ensures, feeds-le (c .before .piece .result .now), ap length (c .before .piece .ensures), length-part 0 (c .before .before .before .args .at) (c .before .before .before .args .text .now))
+add-result c =
+    let piece = c .before .piece in
+    let cut = length-part 0 (c .before .before .before .args .at) (c .before .before .before .args .text .now) in
+    omega (arith, c .line-feeds .ensures, feeds-le (piece .result .now), ap length (piece .ensures), cut)
 
 returns : tie.Need-returns
 unfolding lineOf part

@@ -28,7 +28,10 @@ gap-on-requires c κs = search needs
 
 returns : tie.Need-returns Inv-loop μ-loop
 returns c =
-    sym (c .before .before .before .before .loop .inv ∙ gap-stop (c .before .before .before .before .loop .comment) (c .before .before .before .before .before .before .args .text .now) (c .before .before .before .before .loop .i) (c .before .before .before .loop-test .taken) (sym (c .before .gap-on .ensures) ∙ not-true _ (c .if1 .taken)))
+    let text = c .before .before .before .before .before .before .args .text .now in
+    let loop = c .before .before .before .before .loop in
+    let off = sym (c .before .gap-on .ensures) ∙ not-true _ (c .if1 .taken) in
+    sym (loop .inv ∙ gap-stop (loop .comment) text (loop .i) (c .before .before .before .loop-test .taken) off)
 
 comment-on-requires : tie.Need-comment-on-requires Inv-loop μ-loop
 comment-on-requires c κs = search needs
@@ -41,11 +44,15 @@ loop-less c = omega arith
 
 loop-again : tie.Need-loop-again Inv-loop μ-loop
 loop-again c =
-    rw (c .comment-on .ensures)
-    (c .before .before .before .before .before .loop .inv ∙ gap-step (c .before .before .before .before .before .loop .comment) (c .before .before .before .before .before .before .before .args .text .now) (c .before .before .before .before .before .loop .i) (c .before .before .before .before .loop-test .taken) (sym (c .before .before .gap-on .ensures) ∙ not-false _ (c .before .if1 .left)))
+    let text = c .before .before .before .before .before .before .before .args .text .now in
+    let loop = c .before .before .before .before .before .loop in
+    let on = sym (c .before .before .gap-on .ensures) ∙ not-false _ (c .before .if1 .left) in
+    rw (c .comment-on .ensures) (loop .inv ∙ gap-step (loop .comment) text (loop .i) (c .before .before .before .before .loop-test .taken) on)
 
 returns-2 : tie.Need-returns-2 Inv-loop μ-loop
-returns-2 c = sym (c .before .loop .inv ∙ gap-end (c .before .loop .comment) (c .before .before .before .args .text .now) (c .before .loop .i) (c .loop-test .left))
+returns-2 c =
+    let loop = c .before .loop in
+    sym (loop .inv ∙ gap-end (loop .comment) (c .before .before .before .args .text .now) (loop .i) (c .loop-test .left))
 
 pub token-place-spec : {M : Type 1} → statement M
 token-place-spec =

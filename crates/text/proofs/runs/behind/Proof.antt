@@ -27,7 +27,10 @@ of-class-requires c κs = search needs
 
 returns : tie.Need-returns Inv-loop μ-loop
 returns c =
-    sym (c .before .before .before .before .loop .inv ∙ run-stop (ofClass (c .before .before .before .before .before .before .args .class)) (c .before .before .before .before .before .before .args .text .now) (c .before .before .before .before .loop .i) (c .before .before .before .loop-test .taken) (sym (c .before .of-class .ensures) ∙ not-true _ (c .if1 .taken)))
+    let args = c .before .before .before .before .before .before .args in
+    let loop = c .before .before .before .before .loop in
+    let off = sym (c .before .of-class .ensures) ∙ not-true _ (c .if1 .taken) in
+    sym (loop .inv ∙ run-stop (ofClass (args .class)) (args .text .now) (loop .i) (c .before .before .before .loop-test .taken) off)
 
 add-i : tie.Need-add-i Inv-loop μ-loop
 add-i c = omega arith
@@ -37,10 +40,16 @@ loop-less c = omega arith
 
 loop-again : tie.Need-loop-again Inv-loop μ-loop
 loop-again c =
-    c .before .before .before .before .loop .inv ∙ run-step (ofClass (c .before .before .before .before .before .before .args .class)) (c .before .before .before .before .before .before .args .text .now) (c .before .before .before .before .loop .i) (c .before .before .before .loop-test .taken) (sym (c .before .of-class .ensures) ∙ not-false _ (c .if1 .left))
+    let args = c .before .before .before .before .before .before .args in
+    let loop = c .before .before .before .before .loop in
+    let on = sym (c .before .of-class .ensures) ∙ not-false _ (c .if1 .left) in
+    loop .inv ∙ run-step (ofClass (args .class)) (args .text .now) (loop .i) (c .before .before .before .loop-test .taken) on
 
 returns-2 : tie.Need-returns-2 Inv-loop μ-loop
-returns-2 c = sym (c .before .loop .inv ∙ run-end (ofClass (c .before .before .before .args .class)) (c .before .before .before .args .text .now) (c .before .loop .i) (c .loop-test .left))
+returns-2 c =
+    let args = c .before .before .before .args in
+    let loop = c .before .loop in
+    sym (loop .inv ∙ run-end (ofClass (args .class)) (args .text .now) (loop .i) (c .loop-test .left))
 
 pub behind-spec : {M : Type 1} → statement M
 behind-spec =

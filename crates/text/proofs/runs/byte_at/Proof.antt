@@ -12,7 +12,9 @@ wide-requires : tie.Need-wide-requires
 wide-requires c κs = search needs
 
 returns : tie.Need-returns
-returns c = c .wide .ensures ∙ sym (byte-in (c .before .before .before .before .args .text .now) (c .before .before .before .before .args .at) (c .before .before .if1 .taken))
+returns c =
+    let args = c .before .before .before .before .args in
+    c .wide .ensures ∙ sym (byte-in (args .text .now) (args .at) (c .before .before .if1 .taken))
 
 returns-2 : tie.Need-returns-2
 returns-2 c = sym (byte-out (c .before .before .args .text .now) (c .before .before .args .at) (c .if1 .left))

@@ -32,12 +32,15 @@ loop-less c = omega arith
 
 loop-again : tie.Need-loop-again Inv-loop μ-loop
 loop-again c =
-    (omega arith, rw (c .digit-more .ensures) (c .before .before .before .loop .inv .1 ∙ decimal-step (c .before .before .before .loop .value) (c .before .before .before .before .before .args .digits .now) (c .before .before .before .loop .i) (c .before .before .loop-test .taken)))
+    let loop = c .before .before .before .loop in
+    let step = decimal-step (loop .value) (c .before .before .before .before .before .args .digits .now) (loop .i) (c .before .before .loop-test .taken) in
+    (omega arith, rw (c .digit-more .ensures) (loop .inv .1 ∙ step))
 
 returns : tie.Need-returns Inv-loop μ-loop
 returns c =
-    let rest = decimal-end (c .before .loop .value) (c .before .before .before .args .digits .now) (c .before .loop .i) (c .loop-test .left) in
-    omega (arith, c .before .loop .inv .0, c .before .loop .inv .1, rest)
+    let loop = c .before .loop in
+    let rest = decimal-end (loop .value) (c .before .before .before .args .digits .now) (loop .i) (c .loop-test .left) in
+    omega (arith, loop .inv .0, loop .inv .1, rest)
 
 pub decimal-spec : {M : Type 1} → statement M
 decimal-spec =

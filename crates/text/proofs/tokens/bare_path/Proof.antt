@@ -15,7 +15,10 @@ path-of-requires : tie.Need-path-of-requires
 path-of-requires c κs = search needs
 
 returns : tie.Need-returns
-returns c = c .path-of .ensures ∙ bare-told (c .before .before .before .args .text .now) (c .before .before .before .args .p) (c .before .behind .result) (c .before .behind .ensures)
+returns c =
+    let args = c .before .before .before .args in
+    let end = c .before .behind in
+    c .path-of .ensures ∙ bare-told (args .text .now) (args .p) (end .result) (end .ensures)
 
 pub bare-path-spec : {M : Type 1} → statement M
 bare-path-spec = tie.close (tie.spec behind-requires sub-path-of path-of-requires returns)

@@ -19,19 +19,25 @@ sub-path-of : tie.Need-sub-path-of
 sub-path-of c = search needs
 
 add-path-of : tie.Need-add-path-of
-add-path-of c = omega (arith, byte-inside (c .before .before .before .before .args .text .now) (c .before .before .behind .result) 34 (lit< tt) (sym (c .before .byte-at .ensures) ∙ c .if1 .taken))
+add-path-of c =
+    let mark = sym (c .before .byte-at .ensures) ∙ c .if1 .taken in
+    omega (arith, byte-inside (c .before .before .before .before .args .text .now) (c .before .before .behind .result) 34 (lit< tt) mark)
 
 path-of-requires : tie.Need-path-of-requires
 path-of-requires c κs = search needs
 
 returns : tie.Need-returns
 returns c =
-    c .path-of .ensures
-    ∙ rw (eq-eqb _ _ (sym (c .before .before .byte-at .ensures) ∙ c .before .if1 .taken)) at (quoted-told (c .before .before .before .before .before .args .text .now) (c .before .before .before .before .before .args .p) (c .before .before .before .behind .result) (c .before .before .before .behind .ensures))
+    let args = c .before .before .before .before .before .args in
+    let end = c .before .before .before .behind in
+    let mark = eq-eqb _ _ (sym (c .before .before .byte-at .ensures) ∙ c .before .if1 .taken) in
+    c .path-of .ensures ∙ rw mark at (quoted-told (args .text .now) (args .p) (end .result) (end .ensures))
 
 returns-2 : tie.Need-returns-2
 returns-2 c =
-    rw (← c .before .byte-at .ensures, ne-eqb _ _ (c .if1 .left)) at (quoted-told (c .before .before .before .before .args .text .now) (c .before .before .before .before .args .p) (c .before .before .behind .result) (c .before .before .behind .ensures))
+    let args = c .before .before .before .before .args in
+    let end = c .before .before .behind in
+    rw (← c .before .byte-at .ensures, ne-eqb _ _ (c .if1 .left)) at (quoted-told (args .text .now) (args .p) (end .result) (end .ensures))
 
 pub quoted-path-spec : {M : Type 1} → statement M
 quoted-path-spec =

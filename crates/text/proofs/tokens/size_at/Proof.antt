@@ -22,8 +22,9 @@ returns c = rw (sym (c .before .before .number-at .ensures) ∙ c .enum-told .gi
 
 sized-requires : tie.Need-sized-requires
 sized-requires c κs =
-    let read = number-read (c .before .before .before .before .before .args .text .now) (c .before .before .before .before .before .args .at) _ _ (sym (c .before .before .before .number-at .ensures) ∙ c .before .value .given .1) in
-    omega (arith, read .small)
+    let args = c .before .before .before .before .before .args in
+    let is = sym (c .before .before .before .number-at .ensures) ∙ c .before .value .given .1 in
+    omega (arith, number-read (args .text .now) (args .at) _ _ is .small)
 
 returns-2 : tie.Need-returns-2
 unfolding sizeAt withUnit

@@ -16,15 +16,23 @@ same-requires : tie.Need-same-requires
 same-requires c κs = search needs
 
 add-t9 : tie.Need-add-t9
-add-t9 c = omega (arith, same-fits (c .before .before .before .before .before .before .args .word .now) (c .before .before .before .before .before .before .args .text .now) (c .before .before .before .token-place .result) (told _ _ _ (c .before .before .piece .ensures) (c .before .same .ensures) (c .if1 .taken)), c .before .before .before .token-place .ok)
+add-t9 c =
+    let args = c .before .before .before .before .before .before .args in
+    let place = c .before .before .before .token-place in
+    let there = told _ _ _ (c .before .before .piece .ensures) (c .before .same .ensures) (c .if1 .taken) in
+    omega (arith, same-fits (args .word .now) (args .text .now) (place .result) there, place .ok)
 
 returns : tie.Need-returns
 unfolding wordAt
-returns c = rw (← c .before .before .before .token-place .ensures, told _ _ _ (c .before .before .piece .ensures) (c .before .same .ensures) (c .if1 .taken))
+returns c =
+    let there = told _ _ _ (c .before .before .piece .ensures) (c .before .same .ensures) (c .if1 .taken) in
+    rw (← c .before .before .before .token-place .ensures, there)
 
 returns-2 : tie.Need-returns-2
 unfolding wordAt
-returns-2 c = rw (← c .before .before .before .token-place .ensures, told _ _ _ (c .before .before .piece .ensures) (c .before .same .ensures) (c .if1 .left))
+returns-2 c =
+    let there = told _ _ _ (c .before .before .piece .ensures) (c .before .same .ensures) (c .if1 .left) in
+    rw (← c .before .before .before .token-place .ensures, there)
 
 pub word-at-spec : {M : Type 1} → statement M
 word-at-spec =
