@@ -228,6 +228,31 @@ path-outside text at start n next h e =
     (λ t. quoted-outside text (p + 1) start n next (quote-outside text p o t) (rw t at e))
     (λ t. bare-outside text p start n next o (rw t at e))
 
+-- the bytes of a run stay, and so do a path's
+run-bytes : (test : ℕ → Bool) → test 35 ≡ false → (text : List ℕ) (p : ℕ) → Outside text p
+    → part p (run test (drop p text)) (blanked text) ≡ part p (run test (drop p text)) text
+unfolding part
+run-bytes test t text p h = rw (outside-drop text p h) (take-run-blanked test t (drop p text))
+
+path-of-bytes : (test : ℕ → Bool) → test 35 ≡ false → (text : List ℕ) (p behind start n next : ℕ) → Outside text p
+    → pathOf text p (run test (drop p text)) behind ≡ path.Is start n next → part start n (blanked text) ≡ part start n text
+path-of-bytes test t text p behind start n next h e =
+    let told = path-of-is text p (run test (drop p text)) behind start n next e in
+    rw (← told .4, ← told .3) (run-bytes test t text p h)
+
+pub path-bytes : (text : List ℕ) (at start n next : ℕ) → Outside text at → pathAt text at ≡ path.Is start n next
+    → part start n (blanked text) ≡ part start n text
+unfolding pathAt barePath
+path-bytes text at start n next h e =
+    let p = tokenPlace text at in
+    let o = outside-place text at h in
+    let k = run inPath (drop (p + 1) text) in
+    split (eqb (byteAt text p) 34)
+    (λ t.
+    path-of-bytes inPath refl text (p + 1) (p + 1 + k + 1) start n next (quote-outside text p o t)
+    (quoted-is text (p + 1) start n next (rw t at e) .1))
+    (λ t. path-of-bytes inBarePath refl text p (p + run inBarePath (drop p text)) start n next o (rw t at e))
+
 -- ---- the comment rule, both ways at once
 
 pub record SameTokens (text : List ℕ) (at : ℕ) : Type 0 where

@@ -1,4 +1,4 @@
--- The set-up text, in document 01's words: bytes and gaps, then tokens.
+-- The set-up text in document 01's words (Bytes, Gaps, Comments, Tokens), and what follows from them for the levels above.
 pub mod Bytes
 pub mod Gaps
 pub mod Comments
