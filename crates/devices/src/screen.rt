@@ -1,0 +1,1 @@
+// The screen's cells and its cursor.
