@@ -1,0 +1,2 @@
+-- Refusals in order.
+pub mod Checks

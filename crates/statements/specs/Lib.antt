@@ -1,0 +1,2 @@
+-- The three statements of the set-up text.
+pub mod Statements
