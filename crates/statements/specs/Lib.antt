@@ -1,2 +1,3 @@
 -- The three statements of the set-up text.
 pub mod Statements
+pub mod Rows
