@@ -1,0 +1,3 @@
+-- Refusals in order.
+pub mod Checks
+pub mod Laws
