@@ -1,1 +1,1 @@
-// Theorems only.
+// This crate has no code: its theorems are in specs/Points.antt.
