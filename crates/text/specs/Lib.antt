@@ -3,3 +3,7 @@ pub mod Bytes
 pub mod Gaps
 pub mod Comments
 pub mod Tokens
+pub mod Steps
+pub mod GapLaws
+pub mod RunLaws
+pub mod Sound
