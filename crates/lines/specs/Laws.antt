@@ -9,7 +9,7 @@ use native.Mathlib.Omega.{arith}
 use lib.Dec.{eqb, ltb}
 use lib.ListN.{length, length-append}
 use Rattle.octets.specs.Lists.{writeAt}
-use Rattle.octets.specs.WriteLaws.{writeAt-append, writeAt-out, length-writeAt}
+use Rattle.octets.specs.WriteLaws.{writeAt-append, writeAt-nil, writeAt-out, length-writeAt}
 use Rattle.lines.specs.Lines.{digits, fields, line}
 use Rattle.lines.specs.Wrote.{Wrote, most}
 
@@ -25,16 +25,27 @@ capped m x b n h = go (decLe x m)
         let e : min x m ≡ m = omega arith in
         rw (e, writeAt-out m b n (omega arith)) (sym (writeAt-out x b n (omega arith)))
 
+-- a write keeps the row's length
+pub kept : {at : ℕ} {a o n : List ℕ} {r : ℕ} → Wrote at a o n r → length n ≡ length o
+kept {at} {a} {o} f = rw (f .written) (length-writeAt at a o)
+
 -- one text behind another is both
 pub behind : {at : ℕ} {a : List ℕ} {o n : List ℕ} {r : ℕ} {b m : List ℕ} {q : ℕ} → Wrote at a o n r → Wrote r b n m q → Wrote at (a ++ b) o m q
 behind {at} {a} {o} {n} {r} {b} {m} {q} f g =
-    let kept : length n ≡ length o = rw (f .written) (length-writeAt at a o) in
-    let small : length n < most = rw kept (f .room) in
+    let small : length n < most = rw (kept f) (f .room) in
     record {
       written = rw (g .written, f .place, capped most (at + length a) b n small, f .written) (writeAt-append at a b o);
       place = rw (g .place, f .place, length-append) (omega arith);
       room = f .room;
     }
+
+-- nothing behind a text
+pub nothing : {at : ℕ} {a o n : List ℕ} {r : ℕ} → Wrote at a o n r → Wrote r [] n n r
+nothing {at} {a} {o} {n} {r} f =
+    let same : length n ≡ length o = kept f in
+    let small : length o < most = f .room in
+    let place : r ≡ min (at + length a) most = f .place in
+    record { written = sym (writeAt-nil r n); place = omega arith; room = omega arith }
 
 -- the same text by another name
 pub called : {at : ℕ} {a b o n : List ℕ} {r : ℕ} → a ≡ b → Wrote at a o n r → Wrote at b o n r
