@@ -1,6 +1,6 @@
 -- Document 01 gives refusals as numbers in an order of checking. Here that is a list of checks, a number and when it is given; the first that
 -- holds is the answer, and 0 is no refusal.
-use mathlib.Core.Bool.{Bool, cond, _&&_}
+use mathlib.Core.Bool.{Bool, cond}
 use mathlib.Core.List.{List, [], _∷_}
 use Prim.Native.Nat.{ℕ}
 use lib.Dec.{eqb}

@@ -1,2 +1,3 @@
 -- Refusals in order.
 pub mod Checks
+pub mod Laws

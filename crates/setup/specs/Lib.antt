@@ -2,3 +2,5 @@
 pub mod Setup
 pub mod Rules
 pub mod Reading
+pub mod Values
+pub mod Turns

@@ -1,6 +1,6 @@
 -- Document 01, "Refusals at start": "404 to 413 are tried in that order on one statement before the next is read; 414 .. after the last".
-use mathlib.Core.Bool.{Bool, true, false, cond}
-use mathlib.Core.List.{List, [], _∷_, _++_, map}
+use mathlib.Core.Bool.{Bool, cond}
+use mathlib.Core.List.{List, [], _++_, map}
 use Prim.Native.Nat.{ℕ, zero, suc}
 use lib.Dec.{eqb, leb}
 use lib.ListN.{length}
@@ -12,17 +12,10 @@ use Rattle.statements.specs.declared.Statement.{Statement}
 use Rattle.statements.specs.declared.Statement.the-variants.{Code, Dseg, Mseg, Malformed}
 use Rattle.setup.specs.declared.Segment.{Segment}
 use Rattle.setup.specs.declared.Setup.{Setup}
+use Rattle.setup.specs.declared.Judged.{Judged}
 use Rattle.setup.specs.declared.Outcome.{Outcome}
 use Rattle.setup.specs.Setup.{noSpan, span, begun, permissionRow, withCode, withDseg, withMseg}
 use Rattle.setup.specs.Rules.{codeRank, dsegRank, msegRank, codeChecks, dsegChecks, msegChecks, codeMissing}
-
--- what reading one statement gives: 0, the place behind it, its rank and the set-up with it; or a refusal's number and line
-pub record Judged : Type 0 where
-  pub number : ℕ
-  pub line : ℕ
-  pub next : ℕ
-  pub rank : ℕ
-  pub setup : Setup
 
 abbrev pub noSetup : Setup
 noSetup = begun 0 []
@@ -44,6 +37,13 @@ dseg start n host count bits = record { path = span start n; size = 0; host = ho
 abbrev pub mseg : ℕ → ℕ → ℕ → ℕ → Segment
 mseg size host count bits = record { path = noSpan; size = size; host = host; permissions = permissionRow count bits }
 
+abbrev pub refusal : ℕ → ℕ → Outcome
+refusal number line = record { number = number; line = line; setup = noSetup }
+
+-- behind the last statement. "Line 0 means no line"
+unfoldable pub ended : Setup → Outcome
+ended s = cond (codeMissing 8 s) (refusal 414 0) (record { number = 0; line = 0; setup = s })
+
 module _ (look : Bool) (image text : List ℕ) where
   -- the statement whose first token stands at place p
   unfoldable pub judged : ℕ → ℕ → Setup → Statement → Judged
@@ -58,13 +58,6 @@ module _ (look : Bool) (image text : List ℕ) where
 
   unfoldable pub judgedAt : ℕ → ℕ → Setup → Judged
   judgedAt at rank s = judged (tokenPlace text at) rank s (statementAt text at)
-
-  abbrev pub refusal : ℕ → ℕ → Outcome
-  refusal number line = record { number = number; line = line; setup = noSetup }
-
-  -- behind the last statement. "Line 0 means no line"
-  unfoldable pub ended : Setup → Outcome
-  ended s = cond (codeMissing 8 s) (refusal 414 0) (record { number = 0; line = 0; setup = s })
 
   -- the statements from place `at` on, after some of rank up to `rank`. No more than forty can be accepted (8 CODE, 16 DSEG, 16 MSEG), so
   -- a forty-first is refused by its checks, and n = 41 is never used up

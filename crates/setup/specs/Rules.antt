@@ -1,7 +1,7 @@
 -- Document 01, "Refusals at start, in order of checking": the checks on one statement. 404 for a malformed one comes before them.
-use mathlib.Core.Bool.{Bool, true, false, _&&_, _||_, not}
+use mathlib.Core.Bool.{Bool, false, _&&_, _||_, not}
 use mathlib.Core.List.{List, [], _∷_}
-use Prim.Native.Nat.{ℕ, zero, suc, _-_}
+use Prim.Native.Nat.{ℕ, zero, suc}
 use lib.Dec.{eqb, leb, ltb}
 use lib.ListN.{take, getD}
 use Rattle.checks.specs.Checks.{Check, _when_, after}
@@ -22,6 +22,14 @@ absent look image path = look && not (wasFound (spot path image))
 unfoldable pub someWrites : ℕ → Setup → ℕ → ℕ → Bool
 someWrites zero s count bits = false
 someWrites (suc n) s count bits = (isActive s n && eqb (permissionOf count bits n) 2) || someWrites n s count bits
+
+-- "wrong number of permissions or a rule above broken": "An active host of a dseg may not have NA"
+abbrev pub dsegBroken : Setup → ℕ → ℕ → ℕ → Bool
+dsegBroken s host count bits = not (eqb count (s .partitions)) || (isActive s host && eqb (permissionOf count bits host) 0)
+
+-- "An mseg needs RW for at least one active partition"
+abbrev pub msegBroken : Setup → ℕ → ℕ → Bool
+msegBroken s count bits = not (eqb count (s .partitions)) || not (someWrites (s .partitions) s count bits)
 
 -- Statements stand in the order CODE, DSEG, MSEG: a statement of a lower rank than the highest met before it is out of order.
 abbrev pub codeRank : ℕ
@@ -52,7 +60,7 @@ dsegChecks look image text rank s index path host count bits =
     (409 when pathTaken text path s) ∷
     (410 when reserved path) ∷
     (411 when absent look image path) ∷
-    (413 when (not (eqb count (s .partitions)) || (isActive s host && eqb (permissionOf count bits host) 0))) ∷ []
+    (413 when dsegBroken s host count bits) ∷ []
 
 -- MSEG[index] = { size, host, permissions }
 unfoldable pub msegChecks : Setup → ℕ → ℕ → ℕ → ℕ → ℕ → List Check
@@ -61,7 +69,7 @@ msegChecks s index size host count bits =
     (406 when not (eqb index (s .msegcount))) ∷
     (407 when leb (s .partitions) host) ∷
     (412 when (eqb size 0 || ltb 16777216 size)) ∷
-    (413 when (not (eqb count (s .partitions)) || not (someWrites (s .partitions) s count bits))) ∷ []
+    (413 when msegBroken s count bits) ∷ []
 
 -- behind the last statement: "an active partition has no CODE", of the n first
 unfoldable pub codeMissing : ℕ → Setup → Bool
@@ -73,8 +81,11 @@ unfoldable pub someActive : ℕ → List Bool → Bool
 someActive zero active = false
 someActive (suc n) active = getD active n false || someActive n active
 
+abbrev pub badPartitions : ℕ → List Bool → Bool
+badPartitions count active = not (leb 1 count && leb count 8) || not (someActive count active)
+
 unfoldable pub limits : ℕ → List Bool → ℕ → ℕ
 limits count active bytes =
     after 0 (
-    (401 when (not (leb 1 count && leb count 8) || not (someActive count active))) ∷
+    (401 when badPartitions count active) ∷
     (402 when ltb 16384 bytes) ∷ [])

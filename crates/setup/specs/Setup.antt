@@ -1,9 +1,9 @@
 -- Document 01, "Set-up text": the set-up as a value.
-use mathlib.Core.Bool.{Bool, true, false, cond, _&&_, _||_, not}
+use mathlib.Core.Bool.{Bool, false, cond, _&&_, _||_, not}
 use mathlib.Core.List.{List, [], _∷_, _++_}
-use Prim.Native.Nat.{ℕ, zero, suc, _+_, _-_, _/_, _%_, _^_, _*_, min}
-use lib.Dec.{eqb, leb, ltb}
-use lib.ListN.{length, take, drop, getD, replicate, set}
+use Prim.Native.Nat.{ℕ, _+_, _-_, _/_, _%_, _^_, min}
+use lib.Dec.{eqb, ltb}
+use lib.ListN.{length, take, getD, replicate, set}
 use Rattle.octets.specs.Lists.{part}
 use Rattle.octets.specs.Same.{sameBytes}
 use Rattle.setup.specs.declared.Span.{Span}

@@ -1,2 +1,4 @@
 -- The three statements of the set-up text.
 pub mod Statements
+pub mod Rows
+pub mod Kinds

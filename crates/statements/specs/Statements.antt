@@ -16,6 +16,8 @@ use Rattle.statements.specs.declared.Permissions.{Permissions}
 use Rattle.statements.specs.declared.Permissions.the-variants as permissions
 use Rattle.statements.specs.declared.Tail.{Tail}
 use Rattle.statements.specs.declared.Tail.the-variants as tail
+use Rattle.statements.specs.declared.Kind.{Kind}
+use Rattle.statements.specs.declared.Kind.the-variants as kind
 use Rattle.statements.specs.declared.Statement.{Statement}
 use Rattle.statements.specs.declared.Statement.the-variants.{Code, Dseg, Mseg, Malformed}
 
@@ -123,3 +125,18 @@ statementAt text at =
     (wordAt (77 ∷ 83 ∷ 69 ∷ 71 ∷ []) text at) λ a. msegAt text a)
     (wordAt (68 ∷ 83 ∷ 69 ∷ 71 ∷ []) text at) λ a. dsegAt text a)
     (wordAt (67 ∷ 79 ∷ 68 ∷ 69 ∷ []) text at) λ a. codeAt text a
+
+-- which statement the next token begins, and the place behind that token
+unfoldable pub kindAt : List ℕ → ℕ → Kind
+kindAt text at =
+    onMark (onMark (onMark kind.Other
+    (wordAt (77 ∷ 83 ∷ 69 ∷ 71 ∷ []) text at) λ a. kind.Mseg a)
+    (wordAt (68 ∷ 83 ∷ 69 ∷ 71 ∷ []) text at) λ a. kind.Dseg a)
+    (wordAt (67 ∷ 79 ∷ 68 ∷ 69 ∷ []) text at) λ a. kind.Code a
+
+-- the statement of a kind
+unfoldable pub statementOf : List ℕ → Kind → Statement
+statementOf text (kind.Code a) = codeAt text a
+statementOf text (kind.Dseg a) = dsegAt text a
+statementOf text (kind.Mseg a) = msegAt text a
+statementOf text kind.Other = Malformed

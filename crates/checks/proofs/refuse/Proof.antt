@@ -2,20 +2,15 @@ use borrow.Author.Tests.{eq-eqb, ne-eqb}
 use Rattle.checks.specs.Checks.{refused}
 use Rattle.checks.proofs.refuse.Statement.{statement}
 use Rattle.checks.proofs.refuse.Tie as tie
-use Rattle.checks.proofs.refuse.Reads as reads
-use Rattle.checks.proofs.refuse.Lts as lts
 
--- src/lib.rt:10:9
 returns : tie.Need-returns
 unfolding refused
 returns c = rw (ne-eqb _ _ (c .if1 .taken))
 
--- src/lib.rt:13:9
 returns-2 : tie.Need-returns-2
 unfolding refused
 returns-2 c = rw (eq-eqb _ _ (c .before .if1 .left), c .if2 .taken)
 
--- src/lib.rt:6:1
 returns-3 : tie.Need-returns-3
 unfolding refused
 returns-3 c = rw (eq-eqb _ _ (c .before .if1 .left), c .if2 .left)
