@@ -6,12 +6,11 @@ use lines::put::put_mseg;
 use octets::parts;
 use setup::Segment;
 use setup::Setup;
-ghost use mathlib.Core.Path.{_≡_};
 ghost use Prim.Native.Nat.{_<_, min};
 ghost use lib.ListN.{getD};
 ghost use Rattle.lines.specs.Lines.{decimal, line, dseg, mseg};
 ghost use Rattle.lines.specs.Wrote.{Wrote};
-ghost use Rattle.setup.specs.Setup.{isActive, bytesOf};
+ghost use Rattle.setup.specs.Setup.{bytesOf};
 ghost use Rattle.lister.specs.Listing.{dsegLines, msegLines, linesOf, partitionLines, setupLines};
 
 // The line of dseg i for partition p.
@@ -81,21 +80,12 @@ fn put_msegs(out: &mut [u8], at: usize, setup: Setup, p: usize) -> usize
     next
 }
 
-// Whether partition p is an active one.
-fn is_active(setup: Setup, p: usize) -> bool
-    requires { ⌜ p < 8 ⌝ }
-    ensures { λ r. ⌜ r ≡ isActive setup p ⌝ }
-{
-    let active = setup.active;
-    (p < setup.partitions) & active[p]
-}
-
 // The lines of partition p.
 fn put_partition(out: &mut [u8], at: usize, text: &[u8], setup: Setup, p: usize) -> usize
     requires { ⌜ p < 8 ⌝ }
     ensures { λ r. ⌜ Wrote at (linesOf (now (text .entry)) setup p) (now (out .entry)) (now (out .exit)) r ⌝ }
 {
-    if is_active(setup, p) {
+    if setup.is_active(p) {
         let next = put_dsegs(out, at, text, setup, p);
         return put_msegs(out, next, setup, p);
     }
