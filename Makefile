@@ -1,11 +1,12 @@
-# run: prove, build and run the vectors program    test: the gate    bench: figures beside C, OpenSSL and memmove    fmt: lay out every file
-.PHONY: run test bench fmt rt-is-there
+# run: the listing of a sample set-up    test: the gate    bench: figures beside C, OpenSSL and memmove
+# fuzz-listing: the listing beside a second reader, on 20,000 made-up texts    fmt: lay out every file
+.PHONY: run test bench fuzz-listing fmt rt-is-there
 
 run: rt-is-there
-	@echo 'make run: proving and building the vectors program (minutes after a change, a second else) ..'
-	@rt check vectors
-	@echo 'make run: what it prints:'
-	@target/bin/vectors
+	@echo 'make run: proving and building the listing program (minutes after a change, a second else) ..'
+	@rt check listing
+	@echo 'make run: the listing of examples/sample.txt:'
+	@target/bin/listing <examples/sample.txt
 
 test:
 	@.ci/run
@@ -13,6 +14,13 @@ test:
 bench: rt-is-there
 	@bench/sha256
 	@bench/devices
+	@bench/listing
+
+fuzz-listing: rt-is-there
+	@command -v python3 >/dev/null || { echo 'make: python3 is not on the PATH, and the second reader needs it'; exit 1; }
+	@echo 'make fuzz-listing: proving and building the listing program (minutes after a change, a second else) ..'
+	@rt check listing
+	@tools/listing-fuzz -n 20000
 
 fmt: rt-is-there
 	@rt fmt

@@ -1,0 +1,2 @@
+-- What the listing answers to C.
+pub mod Counted
