@@ -45,12 +45,12 @@ pub struct Setup {
 
 // What reading one statement gives: 0, the place behind it, its rank and the set-up with it; or a refusal's number and line, and an
 // empty set-up.
-struct Judged {
-    number: u32,
-    line: usize,
-    next: usize,
-    rank: u32,
-    setup: Setup,
+pub struct Judged {
+    pub number: u32,
+    pub line: usize,
+    pub next: usize,
+    pub rank: u32,
+    pub setup: Setup,
 }
 
 // What reading a text gives: 0 and the set-up, or a refusal's number and line and an empty set-up.
