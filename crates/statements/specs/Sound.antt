@@ -1,20 +1,25 @@
 -- What every statement that is read keeps to: it ends inside the text and behind its first token, its path lies inside the text and has
 -- 2 to 63 bytes, its numbers are those that a text can spell.
+use mathlib.Core.Bool.{Bool, true, false, cond}
 use mathlib.Core.List.{List, [], _∷_}
 use mathlib.Core.Path.{_≡_, refl}
 use Prim.Native.Nat.{ℕ, zero, suc, _+_, _^_, _≤_, _<_}
 use native.Mathlib.Omega.{arith}
+use borrow.Author.Tests.{eqb-false}
+use lib.Dec.{eqb}
 use lib.ListN.{length}
-use Rattle.text.specs.Tokens.{wordAt, numberAt, pathAt}
-use Rattle.text.specs.Sound.{word-read, number-read, path-read}
+use Rattle.text.specs.Tokens.{wordAt, numberAt, sizeAt, pathAt}
+use Rattle.text.specs.Sound.{word-read, number-read, size-read, path-read}
 use Rattle.text.specs.declared.Number.{Number}
 use Rattle.text.specs.declared.Number.the-variants as number
 use Rattle.statements.specs.declared.Permissions.{Permissions}
 use Rattle.statements.specs.declared.Permissions.the-variants as permissions
+use Rattle.statements.specs.declared.Tail.{Tail}
+use Rattle.statements.specs.declared.Tail.the-variants as tail
 use Rattle.statements.specs.declared.Statement.{Statement}
 use Rattle.statements.specs.declared.Statement.the-variants.{Code, Dseg, Mseg, Malformed}
-use Rattle.statements.specs.Statements.{byte, headAt, permissionAt, packed, permissionsFrom, permissionsAt, codeAt}
-use Rattle.statements.specs.Kinds.{by-mark, by-number, by-path}
+use Rattle.statements.specs.Statements.{byte, headAt, permissionAt, packed, permissionsFrom, permissionsAt, tailAt, codeAt, dsegAt, msegAt}
+use Rattle.statements.specs.Kinds.{by-mark, by-number, by-path, by-permissions, by-tail}
 
 -- `[number] =`, from place `at` on
 pub data HeadRead (text : List ℕ) (at : ℕ) : Number → Type 0 where
@@ -105,3 +110,39 @@ row-from (suc n) text at count bits small =
 pub row-read : (text : List ℕ) (at : ℕ) → RowRead text at (permissionsAt text at)
 unfolding permissionsAt
 row-read text at = row-from (length text) text at 0 0 (omega arith)
+
+-- `, partition, permission+ };`, from place `at` on
+pub data TailRead (text : List ℕ) (at : ℕ) : Tail → Type 0 where
+  is : (host count bits next : ℕ) → host < 2 ^ 32 → 1 ≤ count → bits < 65536 → at < next → next ≤ length text → TailRead text at (tail.Is host count bits next)
+  bad : TailRead text at tail.Bad
+
+pub tail-read : (text : List ℕ) (at : ℕ) → TailRead text at (tailAt text at)
+unfolding tailAt
+tail-read text at =
+    by-mark (TailRead text at) bad (byte 44 text at) _ λ a e.
+    by-number (TailRead text at) bad (numberAt text a) _ λ host b f.
+    by-permissions (TailRead text at) bad (permissionsAt text b) _ λ count bits c g.
+    by-test (eqb count 0) λ t.
+    by-mark (TailRead text at) bad (byte 125 text c) _ λ d h.
+    by-mark (TailRead text at) bad (byte 59 text d) _ λ z k.
+    let comma = word-read (44 ∷ []) text at a e in
+    let digits = number-read text a host b f in
+    let row : RowRead text b (permissions.Are count bits c) = rw (← g) (row-read text b) in
+    let brace = word-read (125 ∷ []) text c d h in
+    let end = word-read (59 ∷ []) text d z k in
+    let some : count ≡ 0 → ⊥ = eqb-false count 0 t in
+    let behind = row-low row in
+    is host count bits z (digits .small) (omega arith) (row-small row) (omega arith) (end .inside (brace .inside (row-inside row (digits .inside))))
+  where
+    by-test : (t : Bool) {x : Tail} → (t ≡ false → TailRead text at x) → TailRead text at (cond t tail.Bad x)
+    by-test true h = bad
+    by-test false h = h refl
+
+    row-low : {b count bits c : ℕ} → RowRead text b (permissions.Are count bits c) → b ≤ c
+    row-low (are count bits next small on fits) = on
+
+    row-small : {b count bits c : ℕ} → RowRead text b (permissions.Are count bits c) → bits < 65536
+    row-small (are count bits next small on fits) = small
+
+    row-inside : {b count bits c : ℕ} → RowRead text b (permissions.Are count bits c) → b ≤ length text → c ≤ length text
+    row-inside (are count bits next small on fits) = fits
