@@ -146,3 +146,47 @@ tail-read text at =
 
     row-inside : {b count bits c : ℕ} → RowRead text b (permissions.Are count bits c) → b ≤ length text → c ≤ length text
     row-inside (are count bits next small on fits) = fits
+
+module _ (text : List ℕ) where
+  head-low : {at v w : ℕ} → HeadRead text at (number.Is v w) → at < w
+  head-low (is v w low inside small) = low
+
+  -- a DSEG statement, from behind its word on
+  pub data DsegRead (at : ℕ) : Statement → Type 0 where
+    dseg : (index start n host count bits next : ℕ) → start + n ≤ length text → 2 ≤ n → n ≤ 63
+        → {from : ℕ} → at < from → TailRead text from (tail.Is host count bits next) → DsegRead at (Dseg index start n host count bits next)
+    malformed : DsegRead at Malformed
+
+  pub dseg-read : (at : ℕ) → DsegRead at (dsegAt text at)
+  unfolding dsegAt
+  dseg-read at =
+      by-number (DsegRead at) malformed (headAt text at) _ λ index a e.
+      by-mark (DsegRead at) malformed (byte 123 text a) _ λ b f.
+      by-path (DsegRead at) malformed (pathAt text b) _ λ start n c g.
+      by-tail (DsegRead at) malformed (tailAt text c) _ λ host count bits d h.
+      let head : HeadRead text at (number.Is index a) = rw (← e) (head-read text at) in
+      let brace = word-read (123 ∷ []) text a b f in
+      let there = path-read text b start n c g in
+      let rest : TailRead text c (tail.Is host count bits d) = rw (← h) (tail-read text c) in
+      let low = head-low head in
+      dseg index start n host count bits d (omega arith) (there .two) (there .most) (omega arith) rest
+
+  -- an MSEG statement, from behind its word on
+  pub data MsegRead (at : ℕ) : Statement → Type 0 where
+    mseg : (index size host count bits next : ℕ) → size < 2 ^ 62
+        → {from : ℕ} → at < from → TailRead text from (tail.Is host count bits next) → MsegRead at (Mseg index size host count bits next)
+    malformed : MsegRead at Malformed
+
+  pub mseg-read : (at : ℕ) → MsegRead at (msegAt text at)
+  unfolding msegAt
+  mseg-read at =
+      by-number (MsegRead at) malformed (headAt text at) _ λ index a e.
+      by-mark (MsegRead at) malformed (byte 123 text a) _ λ b f.
+      by-number (MsegRead at) malformed (sizeAt text b) _ λ size c g.
+      by-tail (MsegRead at) malformed (tailAt text c) _ λ host count bits d h.
+      let head : HeadRead text at (number.Is index a) = rw (← e) (head-read text at) in
+      let brace = word-read (123 ∷ []) text a b f in
+      let digits = size-read text b size c g in
+      let rest : TailRead text c (tail.Is host count bits d) = rw (← h) (tail-read text c) in
+      let low = head-low head in
+      mseg index size host count bits d (digits .small) (omega arith) rest
