@@ -2,3 +2,4 @@
 pub mod Statements
 pub mod Rows
 pub mod Kinds
+pub mod Sound
