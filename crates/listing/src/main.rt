@@ -5,8 +5,7 @@
 // not one to eight letters of A and P with an A among them and a line feed, with 401; else the text behind it is longer than 16,384
 // bytes already, with 402.
 //
-// The output is always long enough. A path has at most 63 bytes and a size at most eight digits, so a line has at most
-// 1 + 3 + 2 + 4 + 63 + 1 bytes; there are at most 8 times 32 of them, and a first line of at most 31 bytes: less than 20,000 in all.
+// The output is always long enough: no listing is longer than 22,998 bytes (`always-fits` of the crate `lister_laws`).
 use libc::STDIN_FILENO;
 use libc::STDOUT_FILENO;
 use lister::Written;

@@ -1,0 +1,3 @@
+-- How long a listing can be.
+pub mod Paths
+pub mod Bound
