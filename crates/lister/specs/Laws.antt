@@ -16,22 +16,23 @@ use Rattle.lines.specs.Wrote.{Wrote, most}
 use Rattle.octets.specs.Lists.{part}
 use Rattle.octets.specs.WriteLaws.{writeAt-zero}
 use Rattle.setup.specs.Setup.{isActive, bytesOf}
+use Rattle.setup.specs.Values.{blank}
 use Rattle.setup.specs.Rules.{limits}
 use Rattle.setup.specs.Reading.{read}
 use Rattle.setup.specs.declared.Segment.{Segment}
 use Rattle.setup.specs.declared.Setup.{Setup}
 use Rattle.setup.specs.declared.Outcome.{Outcome}
 use Rattle.lister.specs.declared.Written.the-variants.{Bytes, Short}
-use Rattle.lister.specs.Listing.{Listed, behindAll, result, shown, dsegLines, msegLines, linesOf, partitionLines, setupLines, answer, onlyLetters, flags, answerTo, listing}
+use Rattle.lister.specs.Listing.{Listed, result, shown, dsegLines, msegLines, linesOf, partitionLines, setupLines, answer, onlyLetters, flags, answerTo, listing}
 
 -- ---- one line more
 
-pub dseg-more : (text : List ℕ) (ds : List Segment) (p i : ℕ) (d : Segment) → d ≡ getD ds i behindAll
+pub dseg-more : (text : List ℕ) (ds : List Segment) (p i : ℕ) (d : Segment) → d ≡ getD ds i blank
     → dsegLines text ds p i ++ line p dseg i (getD (d .permissions) p 0) (bytesOf text (d .path)) ≡ dsegLines text ds p (i + 1)
 unfolding dsegLines
 dseg-more text ds p i d e = rw (e, add-one)
 
-pub mseg-more : (ms : List Segment) (p i : ℕ) (m : Segment) → m ≡ getD ms i behindAll
+pub mseg-more : (ms : List Segment) (p i : ℕ) (m : Segment) → m ≡ getD ms i blank
     → msegLines ms p i ++ line p mseg i (getD (m .permissions) p 0) (decimal (m .size)) ≡ msegLines ms p (i + 1)
 unfolding msegLines
 mseg-more ms p i m e = rw (e, add-one)

@@ -7,7 +7,8 @@ use lib.ListN.{length, take, drop, getD}
 use Rattle.bytes.specs.Bytes.{indexOf}
 use Rattle.lines.specs.Lines.{decimal, headerLine, line, dseg, mseg, refusalLine}
 use Rattle.octets.specs.Lists.{over}
-use Rattle.setup.specs.Setup.{isActive, bytesOf, noSpan}
+use Rattle.setup.specs.Setup.{isActive, bytesOf}
+use Rattle.setup.specs.Values.{blank}
 use Rattle.setup.specs.Rules.{limits}
 use Rattle.setup.specs.Reading.{read}
 use Rattle.setup.specs.declared.Segment.{Segment}
@@ -18,22 +19,18 @@ use Rattle.lister.specs.declared.Written.the-variants.{Bytes, Short}
 
 -- ---- the lines of a set-up
 
--- what stands behind the last one of a row
-abbrev pub behindAll : Segment
-behindAll = record { path = noSpan; size = 0; host = 0; permissions = [] }
-
 -- the lines of partition p for the first n of a row of dsegs, with their paths in the text
 unfoldable pub dsegLines : List ℕ → List Segment → ℕ → ℕ → List ℕ
 dsegLines text ds p zero = []
 dsegLines text ds p (suc n) =
-    let d : Segment = getD ds n behindAll in
+    let d : Segment = getD ds n blank in
     dsegLines text ds p n ++ line p dseg n (getD (d .permissions) p 0) (bytesOf text (d .path))
 
 -- and for the first n of a row of msegs
 unfoldable pub msegLines : List Segment → ℕ → ℕ → List ℕ
 msegLines ms p zero = []
 msegLines ms p (suc n) =
-    let m : Segment = getD ms n behindAll in
+    let m : Segment = getD ms n blank in
     msegLines ms p n ++ line p mseg n (getD (m .permissions) p 0) (decimal (m .size))
 
 -- of partition p: "then dsegs, then msegs". There is room for sixteen of each

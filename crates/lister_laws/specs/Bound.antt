@@ -17,10 +17,11 @@ use Rattle.setup.specs.declared.Segment.{Segment}
 use Rattle.setup.specs.declared.Setup.{Setup}
 use Rattle.setup.specs.declared.Outcome.{Outcome}
 use Rattle.setup.specs.Setup.{isActive, bytesOf}
+use Rattle.setup.specs.Values.{blank}
 use Rattle.setup.specs.Rules.{limits}
 use Rattle.setup.specs.Reading.{read}
 use Rattle.lister.specs.declared.Written.the-variants.{Bytes}
-use Rattle.lister.specs.Listing.{behindAll, dsegLines, msegLines, linesOf, partitionLines, setupLines, answer, onlyLetters, flags, answerTo, listing, result, shown, listed}
+use Rattle.lister.specs.Listing.{dsegLines, msegLines, linesOf, partitionLines, setupLines, answer, onlyLetters, flags, answerTo, listing, result, shown, listed}
 use Rattle.lister_laws.specs.Paths.{Short, short-at, read-short}
 
 -- ---- lines
@@ -61,7 +62,7 @@ dsegs-short : (text : List ℕ) (ds : List Segment) (p n : ℕ) → Short ds →
 unfolding dsegLines bytesOf
 dsegs-short text ds p zero s = omega arith
 dsegs-short text ds p (suc n) s =
-    let d : Segment = getD ds n behindAll in
+    let d : Segment = getD ds n blank in
     let fit : d .path .length ≤ 63 = short-at n s in
     let bytes : length (part (d .path .place) (d .path .length) text) ≤ 63 = rw length-part (omega arith) in
     let more : length (line p dseg n (getD (d .permissions) p 0) (part (d .path .place) (d .path .length) text)) ≤ 48 + 63
@@ -73,7 +74,7 @@ msegs-short : (ms : List Segment) (p n : ℕ) → length (msegLines ms p n) ≤ 
 unfolding msegLines
 msegs-short ms p zero = omega arith
 msegs-short ms p (suc n) =
-    let m : Segment = getD ms n behindAll in
+    let m : Segment = getD ms n blank in
     let more : length (line p mseg n (getD (m .permissions) p 0) (decimal (m .size))) ≤ 48 + 20
     = line-short 20 p mseg n _ _ (omega arith) (decimal-short (m .size)) in
     let before : length (msegLines ms p n) ≤ n * 68 = msegs-short ms p n in

@@ -30,7 +30,7 @@ use Rattle.setup.specs.Setup.{noSegment, begun, withCode, withDseg, withMseg}
 use Rattle.setup.specs.Rules.{codeChecks, dsegChecks, msegChecks, codeMissing}
 use Rattle.setup.specs.Reading as reading
 use Rattle.setup.specs.Reading.{settled, judged, judgedAt, ended, refusal, readFrom, read}
-use Rattle.lister.specs.Listing.{behindAll}
+use Rattle.setup.specs.Values.{blank}
 
 -- ---- rows of dsegs
 
@@ -50,7 +50,7 @@ short-blank (suc n) =
     let low : noSegment .path .length ≤ 63 = omega arith in
     one {d = noSegment} low (short-blank n)
 
-pub short-at : {ds : List Segment} (i : ℕ) → Short ds → getD ds i behindAll .path .length ≤ 63
+pub short-at : {ds : List Segment} (i : ℕ) → Short ds → getD ds i blank .path .length ≤ 63
 short-at zero none = omega arith
 short-at (suc i) none = omega arith
 short-at zero (one h r) = h
