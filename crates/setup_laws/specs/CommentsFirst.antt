@@ -23,7 +23,7 @@ use Rattle.setup.specs.declared.Outcome.{Outcome}
 use Rattle.setup.specs.Setup.{noSpan, noSegment, begun, bytesOf, among, pathsOf, pathTaken, withCode, withDseg, withMseg, span}
 use Rattle.setup.specs.Rules.{dsegChecks}
 use Rattle.setup.specs.Reading.{settled, judged, judgedAt, ended, refusal, readFrom, read, refusedAt}
-use Rattle.setup_comments.specs.Statements.{SameBytes, EndsStatement, statement-blanked}
+use Rattle.setup_laws.specs.SameStatements.{SameBytes, EndsStatement, statement-blanked}
 
 module _ (text : List ℕ) where
   same-length : length (blanked text) ≡ length text
