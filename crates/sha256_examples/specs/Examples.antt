@@ -1,5 +1,5 @@
 -- The digests of three messages, computed from the definitions: that they say what FIPS 180-4 says can be seen from its own examples.
--- The two of NIST's "SHA-256 examples" for FIPS 180-4 and the empty message. The digests were taken from those papers and from coreutils' sha256sum.
+-- The two of NIST's "SHA-256 examples" for FIPS 180-4 and the empty message. The digests stand here as Python's hashlib makes them; coreutils' sha256sum makes the same.
 use mathlib.Core.Path.{_≡_, refl}
 use mathlib.Core.List.{[], _∷_}
 use Rattle.sha256.specs.Words.{add, complement, shl, shr, rotr, wordAt, wordsAt, bytesOf}
