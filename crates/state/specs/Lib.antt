@@ -1,0 +1,3 @@
+-- What a terminal is.
+pub mod Empty
+pub mod Parts
