@@ -134,6 +134,7 @@ impl Partition {
     {
         if device == 1 {
             self.keyfault = flag;
+            return self;
         }
         if device == 2 {
             self.screenfault = flag;

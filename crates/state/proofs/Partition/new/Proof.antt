@@ -1,9 +1,7 @@
-use mathlib.Core.Path.{refl}
+-- `state::Partition::new` meets its contract, by what its two parts are. Assumes nothing.
 use borrow.Author.Needs.{needs}
 use Rattle.state.proofs.Partition.new.Statement.{statement}
 use Rattle.state.proofs.Partition.new.Tie as tie
-use Rattle.devices.proofs.keyboard.Keyboard.new.Reads as keyboard-Keyboard-new-reads
-use Rattle.state.proofs.LoginRecord.new.Reads as LoginRecord-new-reads
 
 new-requires : tie.Need-new-requires
 new-requires c κs = search needs
@@ -12,7 +10,7 @@ new-requires-2 : tie.Need-new-requires-2
 new-requires-2 c κs = search needs
 
 returns : tie.Need-returns
-returns c = rw (c .before .new .ensures)
+returns c = rw (c .before .new .ensures, c .new2 .ensures)
 
 pub new-spec : {M : Type 1} → statement M
 new-spec = tie.close (tie.spec new-requires new-requires-2 returns)

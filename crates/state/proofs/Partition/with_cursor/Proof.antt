@@ -1,3 +1,4 @@
+-- `state::Partition::with_cursor` meets its contract, by computation. Assumes nothing.
 use mathlib.Core.Path.{refl}
 use Rattle.state.specs.Parts.{withCursor}
 use Rattle.state.proofs.Partition.with_cursor.Statement.{statement}

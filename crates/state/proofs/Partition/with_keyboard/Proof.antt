@@ -1,3 +1,4 @@
+-- `state::Partition::with_keyboard` meets its contract, by computation. Assumes nothing.
 use mathlib.Core.Path.{refl}
 use Rattle.state.specs.Parts.{withKeyboard}
 use Rattle.state.proofs.Partition.with_keyboard.Statement.{statement}

@@ -1,3 +1,4 @@
+-- `state::Partition::with_login` meets its contract, by computation. Assumes nothing.
 use mathlib.Core.Path.{refl}
 use Rattle.state.specs.Parts.{withLogin}
 use Rattle.state.proofs.Partition.with_login.Statement.{statement}

@@ -1,4 +1,4 @@
-use mathlib.Core.Path.{refl}
+-- `state::Plan::is_active` meets its contract, by what the seat is. Assumes nothing.
 use Rattle.state.specs.Parts.{isActive}
 use borrow.Author.Needs.{needs}
 use Rattle.state.proofs.Plan.is_active.Statement.{statement}

@@ -1,3 +1,4 @@
+-- `state::Plan::new` meets its contract, by computation. Assumes nothing.
 use mathlib.Core.Path.{refl}
 use Rattle.state.specs.Empty.{noPlan}
 use Rattle.state.proofs.Plan.new.Statement.{statement}

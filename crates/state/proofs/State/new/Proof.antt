@@ -1,4 +1,4 @@
-use mathlib.Core.Path.{refl}
+-- `state::State::new` meets its contract, by what a partition is at its start. Assumes nothing.
 use Rattle.state.specs.Empty.{noState}
 use borrow.Author.Needs.{needs}
 use Rattle.state.proofs.State.new.Statement.{statement}

@@ -1,3 +1,4 @@
+-- `state::State::with_focus` meets its contract, by computation. Assumes nothing.
 use mathlib.Core.Path.{refl}
 use Rattle.state.specs.Parts.{withFocus}
 use Rattle.state.proofs.State.with_focus.Statement.{statement}

@@ -1,3 +1,4 @@
+-- `state::State::with_stop` meets its contract, by computation. Assumes nothing.
 use mathlib.Core.Path.{refl}
 use Rattle.state.specs.Parts.{withStop}
 use Rattle.state.proofs.State.with_stop.Statement.{statement}
