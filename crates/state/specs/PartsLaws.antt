@@ -4,8 +4,6 @@ use Prim.Native.Nat.{ℕ, _≤_, _<_}
 use lib.ListN.{length, getD, List·getD-eq-default}
 use lib.Seq.{set-out}
 use Rattle.setup.specs.Values.{getD-any}
-use Rattle.state.specs.declared.Segment.{Segment}
-use Rattle.state.specs.declared.Seat.{Seat}
 use Rattle.state.specs.declared.Plan.{Plan}
 use Rattle.state.specs.declared.Partition.{Partition}
 use Rattle.state.specs.declared.State.{State}
