@@ -1,3 +1,4 @@
 -- Refusals in order.
 pub mod Checks
 pub mod Laws
+pub mod Settle

@@ -4,6 +4,7 @@ pub mod Numbers
 pub mod PartLaws
 pub mod OnPartLaws
 pub mod WriteLaws
+pub mod LentLaws
 pub mod NthLaws
 pub mod NumberLaws
 pub mod Same
