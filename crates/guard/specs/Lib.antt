@@ -1,5 +1,4 @@
 -- What stands before every call, and the three events, in document 01's words.
-pub mod Settle
 pub mod Test
 pub mod Guard
 pub mod Events

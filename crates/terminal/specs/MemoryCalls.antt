@@ -4,7 +4,6 @@ use mathlib.Core.List.{List}
 use Prim.Native.Nat.{ℕ}
 use Rattle.memory.specs.Rights.{reach}
 use Rattle.memory.specs.Memory.{Told, load as loaded, store as stored, flush as flushed}
-use Rattle.database.specs.Database.{configuration as configured}
 use Rattle.terminal.specs.declared.Terminal.{Terminal}
 use Rattle.terminal.specs.Terminal.{Outcome, answer, outcome, guardOf, differs}
 
@@ -23,7 +22,3 @@ store t permissions p selector offset bytes arena =
 unfoldable pub flush : Terminal → List (List ℕ) → ℕ → ℕ → ℕ → List ℕ → List ℕ → Outcome
 flush t permissions p selector taken arena store =
     told t (flushed (guardOf t (differs store (t .plan .kept .store) || differs arena (t .plan .kept .arena)) p) (reach (t .plan) permissions p selector) taken arena store)
-
-unfoldable pub configuration : Terminal → List (List ℕ) → ℕ → List ℕ → List ℕ → Outcome
-configuration t permissions p store buffer =
-    told t (configured (guardOf t (differs store (t .plan .kept .store)) p) (t .plan) permissions store p buffer)

@@ -2,6 +2,8 @@
 use super::Answer;
 use super::Terminal;
 use console::Reply;
+use console::next;
+use console::random;
 ghost use mathlib.Core.Path.{_≡_};
 ghost use Rattle.terminal.specs.Terminal.{outcome, answer, withPartition};
 ghost use Rattle.terminal.specs.DeviceCalls.{readNext, readRandom, writeNext, writeRandom};
@@ -17,12 +19,19 @@ impl Terminal {
     }
 
     // Takes the oldest keys out of the keyboard's queue into the buffer.
-    pub fn read_next(mut self, partition: u32, major: u32, minor: u32, request: u32, buffer: &mut [u8]) -> Answer
+    pub fn read_next(
+        mut self,
+        partition: u32,
+        major: u32,
+        minor: u32,
+        request: u32,
+        buffer: &mut [u8],
+    ) -> Answer
         ensures { λ r. ⌜ outcome r (now (buffer .exit)) ≡ readNext self partition major minor request (now (buffer .entry)) ⌝ }
     {
         let n = self.guard(false, partition);
         let part = self.partition(partition);
-        let reply = console::read_next(n, part, partition, major, minor, request, buffer);
+        let reply = next::read_next(n, part, partition, major, minor, request, buffer);
         self.replied(partition, reply)
     }
 
@@ -41,7 +50,17 @@ impl Terminal {
     {
         let n = self.guard(screens.len() != self.plan.kept.screens, partition);
         let part = self.partition(partition);
-        let reply = console::read_random(n, part, partition, major, minor, offset, request, screens, buffer);
+        let reply = random::read_random(
+            n,
+            part,
+            partition,
+            major,
+            minor,
+            offset,
+            request,
+            screens,
+            buffer,
+        );
         self.replied(partition, reply)
     }
 
@@ -59,7 +78,7 @@ impl Terminal {
     {
         let n = self.guard(screens.len() != self.plan.kept.screens, partition);
         let part = self.partition(partition);
-        let reply = console::write_next(n, part, partition, major, minor, request, bytes, screens);
+        let reply = next::write_next(n, part, partition, major, minor, request, bytes, screens);
         self.replied(partition, reply)
     }
 
@@ -78,7 +97,17 @@ impl Terminal {
     {
         let n = self.guard(screens.len() != self.plan.kept.screens, partition);
         let part = self.partition(partition);
-        let reply = console::write_random(n, part, partition, major, minor, offset, request, bytes, screens);
+        let reply = random::write_random(
+            n,
+            part,
+            partition,
+            major,
+            minor,
+            offset,
+            request,
+            bytes,
+            screens,
+        );
         self.replied(partition, reply)
     }
 }

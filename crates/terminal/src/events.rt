@@ -1,5 +1,6 @@
 // The events. Each takes the terminal and hands back the next one.
 use super::Terminal;
+use guard::events;
 ghost use mathlib.Core.Path.{_≡_};
 ghost use Rattle.terminal.specs.Events.{key, attention, fault};
 
@@ -10,7 +11,7 @@ impl Terminal {
     {
         let plan = self.plan;
         let state = self.state;
-        self.with_state(guard::key(plan, state, byte))
+        self.with_state(events::key(plan, state, byte))
     }
 
     // The attention key moves the focus to the next active partition.
@@ -19,7 +20,7 @@ impl Terminal {
     {
         let plan = self.plan;
         let state = self.state;
-        self.with_state(guard::attention(plan, state))
+        self.with_state(events::attention(plan, state))
     }
 
     // A device's fault flag is set or cleared: 1 the keyboard, 2 the screen.
@@ -28,6 +29,6 @@ impl Terminal {
     {
         let plan = self.plan;
         let state = self.state;
-        self.with_state(guard::fault(plan, state, partition, device, set))
+        self.with_state(events::fault(plan, state, partition, device, set))
     }
 }

@@ -7,11 +7,9 @@ use state::Plan;
 use state::Seat;
 use state::State;
 
-mod account_calls;
 mod device_calls;
 mod events;
 mod memory_calls;
-mod start;
 mod stop_calls;
 
 ghost use mathlib.Core.Path.{_≡_};
@@ -45,10 +43,7 @@ impl Terminal {
     {
         let plan = Plan::new();
         let state = State::new();
-        Terminal {
-            plan,
-            state,
-        }
+        Terminal { plan, state }
     }
 
     // The common checks of every call: 216, 212, 213 or 0. `wrong`: what is lent is not as at start.

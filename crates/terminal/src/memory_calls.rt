@@ -2,10 +2,11 @@
 use super::Answer;
 use super::Terminal;
 use memory::Reach;
+use memory::rights;
 ghost use mathlib.Core.Path.{_≡_};
 ghost use Rattle.memory.specs.Rights.{reach};
 ghost use Rattle.terminal.specs.Terminal.{outcome};
-ghost use Rattle.terminal.specs.MemoryCalls.{load, store, flush, configuration};
+ghost use Rattle.terminal.specs.MemoryCalls.{load, store, flush};
 
 impl Terminal {
     // What a selector gives the calling partition.
@@ -13,7 +14,7 @@ impl Terminal {
         ensures { λ r. ⌜ r ≡ reach (self .plan) permissions partition selector ⌝ }
     {
         let plan = self.plan;
-        memory::reach(plan, permissions, partition, selector)
+        rights::reach(plan, permissions, partition, selector)
     }
 
     // Copies bytes of a segment into the buffer.
@@ -65,25 +66,12 @@ impl Terminal {
         ensures { λ r. ⌜ outcome r (now (store .exit)) ≡ flush self permissions partition selector taken (now (arena .entry)) (now (store .entry)) ⌝ }
     {
         let kept = self.plan.kept;
-        let n = self.guard((store.len() != kept.store) | (arena.len() != kept.arena), partition);
+        let n = self.guard(
+            (store.len() != kept.store) | (arena.len() != kept.arena),
+            partition,
+        );
         let reach = self.reach(permissions, partition, selector);
         let number = memory::flush(n, reach, taken, arena, store);
-        self.answer(number, 0)
-    }
-
-    // Writes the configuration database into the buffer.
-    pub fn configuration(
-        mut self,
-        permissions: [[u8; 8]; 32],
-        partition: u32,
-        store: &[u8],
-        buffer: &mut [u8],
-    ) -> Answer
-        ensures { λ r. ⌜ outcome r (now (buffer .exit)) ≡ configuration self permissions partition (now (store .entry)) (now (buffer .entry)) ⌝ }
-    {
-        let n = self.guard(store.len() != self.plan.kept.store, partition);
-        let plan = self.plan;
-        let number = database::configuration(n, plan, permissions, partition, store, buffer);
         self.answer(number, 0)
     }
 }

@@ -1,6 +1,7 @@
 // The calls that stop the terminal.
 use super::Answer;
 use super::Terminal;
+use console::halt;
 ghost use mathlib.Core.Path.{_≡_};
 ghost use Rattle.terminal.specs.Terminal.{outcome};
 ghost use Rattle.terminal.specs.StopCalls.{shutdown, switchedOff, powerdown};
@@ -14,9 +15,13 @@ impl Terminal {
         if n != 0 {
             return self.answer(n, 0);
         }
-        let part = console::halt(self.partition(partition), partition, message, screens);
+        let part = halt::halt(self.partition(partition), partition, message, screens);
         let state = self.state;
-        let next = self.with_state(state.with_part(partition as usize, part).with_stop(state.off));
+        let next = self.with_state(
+            state
+                .with_part(partition as usize, part)
+                .with_stop(state.off),
+        );
         next.answer(0, 0)
     }
 

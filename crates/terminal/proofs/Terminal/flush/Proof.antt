@@ -1,0 +1,29 @@
+use Rattle.terminal.specs.MemoryCalls.{flush, told}
+use Rattle.terminal.specs.Terminal.{differs}
+use borrow.Author.Needs.{needs}
+use Rattle.terminal.proofs.Terminal.flush.Statement.{statement}
+use Rattle.terminal.proofs.Terminal.flush.Tie as tie
+
+guard-requires : tie.Need-guard-requires
+guard-requires c κs = search needs
+
+reach-requires : tie.Need-reach-requires
+reach-requires c κs = search needs
+
+flush-requires : tie.Need-flush-requires
+flush-requires c κs = search needs
+
+answer-requires : tie.Need-answer-requires
+answer-requires c κs = search needs
+
+same-length : tie.Need-same-length
+same-length c = search needs
+
+returns : tie.Need-returns
+unfolding flush told differs
+returns c = rw (c .answer .ensures, ← c .before .before .before .before .before .before .guard .ensures, ← c .before .before .before .before .before .reach .ensures, ← c .before .before .before .flush .ensures)
+
+pub flush-spec : {M : Type 1} → statement M
+flush-spec =
+    tie.close
+    (tie.spec guard-requires reach-requires flush-requires answer-requires same-length returns)

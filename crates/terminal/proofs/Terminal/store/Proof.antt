@@ -1,0 +1,29 @@
+use Rattle.terminal.specs.MemoryCalls.{store, told}
+use Rattle.terminal.specs.Terminal.{differs}
+use borrow.Author.Needs.{needs}
+use Rattle.terminal.proofs.Terminal.store.Statement.{statement}
+use Rattle.terminal.proofs.Terminal.store.Tie as tie
+
+guard-requires : tie.Need-guard-requires
+guard-requires c κs = search needs
+
+reach-requires : tie.Need-reach-requires
+reach-requires c κs = search needs
+
+store-requires : tie.Need-store-requires
+store-requires c κs = search needs
+
+answer-requires : tie.Need-answer-requires
+answer-requires c κs = search needs
+
+same-length : tie.Need-same-length
+same-length c = search needs
+
+returns : tie.Need-returns
+unfolding store told differs
+returns c = rw (c .answer .ensures, ← c .before .before .before .before .before .before .guard .ensures, ← c .before .before .before .before .before .reach .ensures, ← c .before .before .before .store .ensures)
+
+pub store-spec : {M : Type 1} → statement M
+store-spec =
+    tie.close
+    (tie.spec guard-requires reach-requires store-requires answer-requires same-length returns)

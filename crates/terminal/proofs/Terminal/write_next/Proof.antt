@@ -1,0 +1,35 @@
+use Rattle.terminal.specs.DeviceCalls.{writeNext, replied}
+use Rattle.terminal.specs.Terminal.{differs}
+use borrow.Author.Needs.{needs}
+use Rattle.terminal.proofs.Terminal.write_next.Statement.{statement}
+use Rattle.terminal.proofs.Terminal.write_next.Tie as tie
+
+guard-requires : tie.Need-guard-requires
+guard-requires c κs = search needs
+
+partition-requires : tie.Need-partition-requires
+partition-requires c κs = search needs
+
+write-next-requires : tie.Need-write-next-requires
+write-next-requires c κs = search needs
+
+replied-requires : tie.Need-replied-requires
+replied-requires c κs = search needs
+
+same-length : tie.Need-same-length
+same-length c = search needs
+
+returns : tie.Need-returns
+unfolding writeNext replied differs
+returns c = rw (c .replied .ensures, ← c .before .before .before .before .before .before .guard .ensures, ← c .before .before .before .before .before .partition .ensures, ← c .before .before .before .write-next .ensures)
+
+pub write-next-spec : {M : Type 1} → statement M
+write-next-spec =
+    tie.close
+    (tie.spec
+    guard-requires
+    partition-requires
+    write-next-requires
+    replied-requires
+    same-length
+    returns)
