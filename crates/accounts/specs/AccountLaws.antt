@@ -1,0 +1,2 @@
+-- What the calls of this crate keep.
+use mathlib.Core.List.{List}
