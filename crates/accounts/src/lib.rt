@@ -18,7 +18,7 @@ ghost use Rattle.passwords.specs.PasswordFile.{find};
 ghost use Rattle.passwords.specs.declared.Lookup.the-variants.{At};
 ghost use Rattle.accounts.specs.Strings.{stringOf};
 ghost use Rattle.accounts.specs.Users.{readable, userName, placeOf};
-ghost use Rattle.accounts.specs.Login.{digested, tried, login};
+ghost use Rattle.accounts.specs.Login.{attempt, digested, tried, login};
 ghost use Rattle.accounts.specs.Who.{told, who};
 ghost use Rattle.accounts.specs.SetPassword.{changed, fileImage, onStore, inMemory, written, setPassword};
 
@@ -63,6 +63,17 @@ fn digest_counted(password: &[u8], count: usize) -> Digested
     }
 }
 
+// AUTH_FAILURE, with the work that was done. Who is logged in stays.
+fn failed(held: LoginRecord, count: usize) -> Attempt
+    ensures { λ r. ⌜ r ≡ attempt 300 count held ⌝ }
+{
+    Attempt {
+        number: 300,
+        count,
+        login: held,
+    }
+}
+
 // Compares a password's digest with the one that stands in the record found.
 fn compared(
     held: LoginRecord,
@@ -88,11 +99,7 @@ fn compared(
             login: user,
         };
     }
-    Attempt {
-        number: 300,
-        count: work.count,
-        login: held,
-    }
+    failed(held, work.count)
 }
 
 // Looks the name up, and only then takes the password's digest.
@@ -106,11 +113,7 @@ fn tried(held: LoginRecord, table: &[u8], name: &[u8], password: &[u8]) -> Attem
             digest,
             count,
         } => compared(held, table, password, number, digest, count),
-        Lookup::Nowhere { count } => Attempt {
-            number: 300,
-            count,
-            login: held,
-        },
+        Lookup::Nowhere { count } => failed(held, count),
     }
 }
 
@@ -145,9 +148,9 @@ fn tell(held: LoginRecord, table: &[u8], buffer: &mut [u8])
 pub fn who(n: u32, held: LoginRecord, table: &[u8], buffer: &mut [u8]) -> u32
     ensures { λ r. ⌜ told r (now (buffer .exit)) ≡ who n held (now (table .entry)) (now (buffer .entry)) ⌝ }
 {
-    let fault = checks::refuse(n, buffer.len() < NAME_ROOM, 214);
-    if fault != 0 {
-        return fault;
+    let narrow = checks::refuse(n, buffer.len() < NAME_ROOM, 214);
+    if narrow != 0 {
+        return narrow;
     }
     tell(held, table, buffer);
     0
@@ -195,9 +198,9 @@ pub fn set_password(
     ensures { λ r. ⌜ changed r (now (file .exit)) (now (table .exit)) ≡ setPassword n held (now (password .entry)) taken (now (file .entry)) (now (table .entry)) ⌝ }
 {
     let absent = checks::refuse(n, !users::is_user(held), 303);
-    let fault = checks::refuse(absent, !strings::is_string(password), 302);
-    if fault != 0 {
-        return fault;
+    let barred = checks::refuse(absent, !strings::is_string(password), 302);
+    if barred != 0 {
+        return barred;
     }
     let number = written(taken, file);
     renew(held, password, table);

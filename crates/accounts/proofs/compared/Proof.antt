@@ -43,8 +43,11 @@ same-requires c κs = search needs
 returns : tie.Need-returns
 returns c = same-digest _ _ _ _ _ _ _ (c .before .before .before .before .before .digest-counted .ensures) (rw (c .before .before .before .piece .ensures) at (sym (c .before .same .ensures) ∙ c .if1 .taken))
 
+failed-requires : tie.Need-failed-requires
+failed-requires c κs = search needs
+
 returns-2 : tie.Need-returns-2
-returns-2 c = other-digest _ _ _ _ _ _ _ (c .before .before .before .before .before .digest-counted .ensures) (rw (c .before .before .before .piece .ensures) at (sym (c .before .same .ensures) ∙ c .if1 .left))
+returns-2 c = c .failed .ensures ∙ other-digest _ _ _ _ _ _ _ (c .before .before .before .before .before .before .digest-counted .ensures) (rw (c .before .before .before .before .piece .ensures) at (sym (c .before .before .same .ensures) ∙ c .before .if1 .left))
 
 pub compared-spec : {M : Type 1} → statement M
 compared-spec =
@@ -55,4 +58,5 @@ compared-spec =
     slice-aggregate-same
     same-requires
     returns
+    failed-requires
     returns-2)
