@@ -8,7 +8,7 @@ use Rattle.octets.specs.Lists.{part, onPart}
 use Rattle.checks.specs.Checks.{after}
 use Rattle.checks.specs.Settle.{settle}
 use Rattle.devices.specs.Queue.{Took, queueTake}
-use Rattle.devices.specs.Screen.{screen, putAll, onScreen, Transfer, randomRead, randomWrite}
+use Rattle.devices.specs.Screen.{screen, putAll, onScreen, Transfer, transfer, randomRead, randomWrite}
 use Rattle.state.specs.declared.Partition.{Partition}
 use Rattle.state.specs.Parts.{withKeyboard, withCursor}
 use Rattle.console.specs.declared.Reply.{Reply}
@@ -22,11 +22,11 @@ reply number count x = record { number = number; count = count; part = x }
 
 -- and the one lent thing that it may write, a buffer or the screen area
 pub record Outcome : Type 0 where
-  pub answer : Reply
+  pub reply : Reply
   pub lent : List ℕ
 
 abbrev pub outcome : Reply → List ℕ → Outcome
-outcome answer lent = record { answer = answer; lent = lent }
+outcome r lent = record { reply = r; lent = lent }
 
 -- "Refused counts are 0"; nothing changes
 unfoldable pub refusal : ℕ → Partition → List ℕ → Outcome
@@ -53,24 +53,24 @@ cellsOf p screens = part (2000 * p) 2000 screens
 unfoldable pub onCells : ℕ → (List ℕ → List ℕ) → List ℕ → List ℕ
 onCells p f screens = onPart (2000 * p) 2000 f screens
 
-unfoldable pub cellsRead : Partition → Transfer → Outcome
-cellsRead x t = outcome (reply 0 (t .count) x) (t .after)
-
 -- "Random read and write move min(request, 2,000 − offset) cells and not the cursor"
+unfoldable pub cellsMoved : Partition → Transfer → Outcome
+cellsMoved x t = outcome (reply 0 (t .count) x) (t .after)
+
 unfoldable pub readRandom : ℕ → Partition → ℕ → ℕ → ℕ → ℕ → ℕ → List ℕ → List ℕ → Outcome
 readRandom n x p major minor offset request screens buffer =
     let m = after n (deviceChecks true false x p major minor offset request (length buffer)) in
-    settle m (cellsRead x (randomRead offset request (cellsOf p screens) buffer)) (refusal m x buffer)
+    settle m (cellsMoved x (randomRead offset request (cellsOf p screens) buffer)) (refusal m x buffer)
 
-unfoldable pub cellsWritten : Partition → ℕ → ℕ → ℕ → List ℕ → List ℕ → Outcome
-cellsWritten x p offset request bytes screens =
-    outcome (reply 0 (randomWrite offset request bytes (cellsOf p screens) .count) x)
-    (onCells p (λ cells. randomWrite offset request bytes cells .after) screens)
+-- bytes laid over the cells of partition p's screen
+unfoldable pub written : ℕ → ℕ → ℕ → List ℕ → List ℕ → Transfer
+written p offset request bytes screens =
+    transfer (randomWrite offset request bytes (cellsOf p screens) .count) (onCells p (λ cells. randomWrite offset request bytes cells .after) screens)
 
 unfoldable pub writeRandom : ℕ → Partition → ℕ → ℕ → ℕ → ℕ → ℕ → List ℕ → List ℕ → Outcome
 writeRandom n x p major minor offset request bytes screens =
     let m = after n (deviceChecks true true x p major minor offset request (length bytes)) in
-    settle m (cellsWritten x p offset request bytes screens) (refusal m x screens)
+    settle m (cellsMoved x (written p offset request bytes screens)) (refusal m x screens)
 
 -- what bytes on a screen leave: the partition, with the cursor where it then is, and the screen area
 pub record Drawn : Type 0 where

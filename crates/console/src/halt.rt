@@ -1,4 +1,5 @@
 // What shutdown shows on the caller's screen.
+use super::draw;
 use octets::parts;
 use octets::search;
 use state::Partition;
@@ -27,6 +28,6 @@ pub fn halt(part: Partition, partition: u32, message: &[u8], screens: &mut [u8])
     if faulty {
         return part;
     }
-    let told = super::draw(part, partition, shown(message), screens);
-    super::draw(told, partition, b"\nSYSTEM HALTED", screens)
+    let told = draw(part, partition, shown(message), screens);
+    draw(told, partition, b"\nSYSTEM HALTED", screens)
 }

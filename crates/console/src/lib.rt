@@ -7,10 +7,9 @@ use octets::parts;
 use state::Partition;
 ghost use mathlib.Core.Path.{_≡_};
 ghost use mathlib.Core.Bool.{cond};
-ghost use lib.ListN.{length};
 ghost use Rattle.checks.specs.Checks.{after};
 ghost use Rattle.console.specs.DeviceChecks.{deviceChecks, noData};
-ghost use Rattle.console.specs.Console.{drawing, drawn};
+ghost use Rattle.console.specs.Console.{reply, drawing, drawn};
 
 pub mod halt;
 pub mod next;
@@ -21,6 +20,17 @@ pub struct Reply {
     pub number: u32,
     pub count: usize,
     pub part: Partition,
+}
+
+// Nothing moved and nothing changed.
+fn refused(number: u32, part: Partition) -> Reply
+    ensures { λ r. ⌜ r ≡ reply number 0 part ⌝ }
+{
+    Reply {
+        number: number,
+        count: 0,
+        part: part,
+    }
 }
 
 // The number of a device that fails: WRITE_FAILURE or READ_FAILURE.

@@ -1,5 +1,8 @@
 // Next-read and next-write.
 use super::Reply;
+use super::draw;
+use super::refusal;
+use super::refused;
 use octets::parts;
 use state::Partition;
 ghost use mathlib.Core.Path.{_≡_};
@@ -17,7 +20,7 @@ pub fn read_next(
 ) -> Reply
     ensures { λ r. ⌜ outcome r (now (buffer .exit)) ≡ readNext n part partition major minor request (now (buffer .entry)) ⌝ }
 {
-    let number = super::refusal(
+    let number = refusal(
         n,
         false,
         false,
@@ -30,11 +33,7 @@ pub fn read_next(
         buffer.len(),
     );
     if number != 0 {
-        return Reply {
-            number: number,
-            count: 0,
-            part: part,
-        };
+        return refused(number, part);
     }
     let keyboard = part.keyboard;
     let taken = keyboard.take(request as usize, buffer);
@@ -60,7 +59,7 @@ pub fn write_next(
 ) -> Reply
     ensures { λ r. ⌜ outcome r (now (screens .exit)) ≡ writeNext n part partition major minor request (now (bytes .entry)) (now (screens .entry)) ⌝ }
 {
-    let number = super::refusal(
+    let number = refusal(
         n,
         false,
         true,
@@ -73,14 +72,10 @@ pub fn write_next(
         bytes.len(),
     );
     if number != 0 {
-        return Reply {
-            number: number,
-            count: 0,
-            part: part,
-        };
+        return refused(number, part);
     }
     let count = request as usize;
-    let after = super::draw(part, partition, parts::piece(bytes, 0, count), screens);
+    let after = draw(part, partition, parts::piece(bytes, 0, count), screens);
     Reply {
         number: 0,
         count: count,

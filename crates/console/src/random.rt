@@ -1,10 +1,13 @@
 // Random read and write of a screen. Neither moves the cursor.
 use super::Reply;
+use super::refusal;
+use super::refused;
 use devices::screen;
 use octets::parts;
 use state::Partition;
 ghost use mathlib.Core.Path.{_≡_};
-ghost use Rattle.console.specs.Console.{outcome, readRandom, writeRandom};
+ghost use Rattle.devices.specs.Screen.{transfer};
+ghost use Rattle.console.specs.Console.{outcome, readRandom, written, writeRandom};
 
 // Copies cells of the partition's screen, from `offset` on, into the buffer.
 pub fn read_random(
@@ -20,7 +23,7 @@ pub fn read_random(
 ) -> Reply
     ensures { λ r. ⌜ outcome r (now (buffer .exit)) ≡ readRandom n part partition major minor offset request (now (screens .entry)) (now (buffer .entry)) ⌝ }
 {
-    let number = super::refusal(
+    let number = refusal(
         n,
         true,
         false,
@@ -33,11 +36,7 @@ pub fn read_random(
         buffer.len(),
     );
     if number != 0 {
-        return Reply {
-            number: number,
-            count: 0,
-            part: part,
-        };
+        return refused(number, part);
     }
     let at = 2000 * (partition as usize);
     let cells = parts::piece(screens, at, 2000);
@@ -47,6 +46,16 @@ pub fn read_random(
         count: count,
         part: part,
     }
+}
+
+// Lays bytes over the cells of the partition's screen, from `offset` on, and says how many.
+fn lay(partition: u32, offset: usize, request: usize, bytes: &[u8], screens: &mut [u8]) -> usize
+    ensures { λ r. ⌜ transfer r (now (screens .exit)) ≡ written partition offset request (now (bytes .entry)) (now (screens .entry)) ⌝ }
+{
+    let at = 2000 * (partition as usize);
+    let start = parts::least(at, screens.len());
+    let end = parts::sum(start, 2000, screens.len());
+    screen::write_at(&mut screens[start..end], offset, request, bytes)
 }
 
 // Copies bytes over the cells of the partition's screen, from `offset` on.
@@ -63,7 +72,7 @@ pub fn write_random(
 ) -> Reply
     ensures { λ r. ⌜ outcome r (now (screens .exit)) ≡ writeRandom n part partition major minor offset request (now (bytes .entry)) (now (screens .entry)) ⌝ }
 {
-    let number = super::refusal(
+    let number = refusal(
         n,
         true,
         true,
@@ -76,21 +85,9 @@ pub fn write_random(
         bytes.len(),
     );
     if number != 0 {
-        return Reply {
-            number: number,
-            count: 0,
-            part: part,
-        };
+        return refused(number, part);
     }
-    let at = 2000 * (partition as usize);
-    let start = parts::least(at, screens.len());
-    let end = parts::sum(start, 2000, screens.len());
-    let count = screen::write_at(
-        &mut screens[start..end],
-        offset as usize,
-        request as usize,
-        bytes,
-    );
+    let count = lay(partition, offset as usize, request as usize, bytes, screens);
     Reply {
         number: 0,
         count: count,

@@ -13,14 +13,20 @@ use borrow.Author.Needs.{needs}
 use Rattle.console.proofs.draw.Statement.{statement}
 use Rattle.console.proofs.draw.Tie as tie
 
-put : (bytes : List ℕ) (p : ℕ) (x : Partition) (screens after : List ℕ) (a e cursor : ℕ) → a ≡ min (2000 * p) (length screens) → e ≡ min (a + 2000) (length screens)
+-- bytes on the part that is lent, as `draw` lends it
+on-screen : (bytes : List ℕ) (p : ℕ) (x : Partition) (screens after : List ℕ) (a e cursor : ℕ) → a ≡ min (2000 * p) (length screens) → e ≡ min (a + 2000) (length screens)
     → screen after cursor ≡ onScreen (putAll bytes) (screen (midOf a (e - a) screens) (x .cursor))
     → drawing (withCursor cursor x) (putMid a (e - a) screens after) ≡ drawn bytes p x screens
 unfolding drawn cellsOf onCells
-put bytes p x screens after a e cursor start end h =
-    let place : cursor ≡ onScreen (putAll bytes) (screen (midOf a (e - a) screens) (x .cursor)) .cursor = ap (λ (s : Screen). s .cursor) h in
-    let cells : after ≡ onScreen (putAll bytes) (screen (midOf a (e - a) screens) (x .cursor)) .cells = ap (λ (s : Screen). s .cells) h in
-    rw (place, lent-back (2000 * p) 2000 a e screens start end (λ cells. onScreen (putAll bytes) (screen cells (x .cursor)) .cells) after cells, lent-part (2000 * p) 2000 a e screens start end)
+on-screen bytes p x screens after a e cursor start end h =
+    let put = onScreen (putAll bytes) (screen (midOf a (e - a) screens) (x .cursor)) in
+    let place : cursor ≡ put .cursor = ap (λ (s : Screen). s .cursor) h in
+    let cells : after ≡ put .cells = ap (λ (s : Screen). s .cells) h in
+    rw (
+      place,
+      lent-back (2000 * p) 2000 a e screens start end (λ cells. onScreen (putAll bytes) (screen cells (x .cursor)) .cells) after cells,
+      lent-part (2000 * p) 2000 a e screens start end,
+    )
 
 mul-at : tie.Need-mul-at
 mul-at c = search needs
@@ -50,9 +56,14 @@ same-length : tie.Need-same-length
 same-length c = search needs
 
 returns : tie.Need-returns
-returns c = rw (c .with-cursor .ensures)
-    (put (c .before .before .before .before .before .before .before .before .before .args .bytes .now) (c .before .before .before .before .before .before .before .before .before .args .partition) (c .before .before .before .before .before .before .before .before .before .args .part) (c .before .before .before .before .before .before .before .before .before .args .screens .now) (c .before .before .before .put-all .last .0) (c .before .before .before .before .before .before .least .result) (c .before .before .before .before .before .sum .result) (c .before .before .before .put-all .result)
-    (c .before .before .before .before .before .before .least .ensures) (c .before .before .before .before .before .sum .ensures) (c .before .before .before .put-all .ensures))
+returns c =
+    let args = c .before .before .before .before .before .before .before .before .before .args in
+    let start = c .before .before .before .before .before .before .least in
+    let end = c .before .before .before .before .before .sum in
+    let text = c .before .before .before .put-all in
+    rw (c .with-cursor .ensures)
+    (on-screen (args .bytes .now) (args .partition) (args .part) (args .screens .now) (text .last .0) (start .result) (end .result) (text .result)
+    (start .ensures) (end .ensures) (text .ensures))
 
 pub draw-spec : {M : Type 1} → statement M
 draw-spec =

@@ -1,4 +1,4 @@
--- `console::no_data` meets its contract. Assumes nothing.
+-- `console::no_data` meets its contract: a queue holds 64 keys at most. Assumes nothing.
 use Rattle.devices.specs.Queue.{held}
 use Rattle.console.specs.DeviceChecks.{noData}
 use borrow.Author.Needs.{needs}

@@ -43,7 +43,21 @@ refuse-requires-9 c κs = search needs
 
 returns : tie.Need-returns
 unfolding after deviceChecks
-returns c = rw (c .refuse9 .ensures, c .before .refuse8 .ensures, c .before .before .refuse7 .ensures, c .before .before .before .refuse6 .ensures, c .before .before .before .before .refuse5 .ensures, c .before .before .before .before .before .refuse4 .ensures, c .before .before .before .before .before .before .refuse3 .ensures, c .before .before .before .before .before .before .before .refuse2 .ensures, c .before .before .before .before .before .before .before .before .refuse .ensures, c .before .before .before .before .before .before .before .before .before .no-data .ensures, c .before .before .before .before .before .before .before .before .before .before .failure .ensures, c .before .before .before .before .before .before .before .before .before .before .before .faulty .ensures)
+returns c =
+    rw (
+      c .refuse9 .ensures,
+      c .before .refuse8 .ensures,
+      c .before .before .refuse7 .ensures,
+      c .before .before .before .refuse6 .ensures,
+      c .before .before .before .before .refuse5 .ensures,
+      c .before .before .before .before .before .refuse4 .ensures,
+      c .before .before .before .before .before .before .refuse3 .ensures,
+      c .before .before .before .before .before .before .before .refuse2 .ensures,
+      c .before .before .before .before .before .before .before .before .refuse .ensures,
+      c .before .before .before .before .before .before .before .before .before .no-data .ensures,
+      c .before .before .before .before .before .before .before .before .before .before .failure .ensures,
+      c .before .before .before .before .before .before .before .before .before .before .before .faulty .ensures,
+    )
 
 pub refusal-spec : {M : Type 1} → statement M
 refusal-spec =

@@ -18,7 +18,9 @@ both message a p x y z screens first second works shown e f =
     rw (halt-shown message p x screens works, ← shown, drawn-append a notice p x screens, ← e) f
 
 returns : tie.Need-returns
-returns c = sym (halt-faulty (c .before .before .before .args .message .now) (c .before .before .before .args .partition) (c .before .before .before .args .part) (c .before .before .before .args .screens .now) (c .if1 .taken))
+returns c =
+    let args = c .before .before .before .args in
+    sym (halt-faulty (args .message .now) (args .partition) (args .part) (args .screens .now) (c .if1 .taken))
 
 shown-requires : tie.Need-shown-requires
 shown-requires c κs = search needs
@@ -38,8 +40,13 @@ same-length c = search needs
 returns-2 : tie.Need-returns-2
 unfolding notice
 returns-2 c =
-    both (c .before .before .before .before .before .before .before .before .before .before .before .before .before .args .message .now) (c .before .before .before .before .before .before .before .before .before .shown .result .now) (c .before .before .before .before .before .before .before .before .before .before .before .before .before .args .partition) (c .before .before .before .before .before .before .before .before .before .before .before .before .before .args .part) (c .before .before .before .before .before .before .before .draw .result) (c .before .before .draw2 .result) (c .before .before .before .before .before .before .before .before .before .before .before .before .before .args .screens .now) (c .before .before .before .before .before .before .before .draw .last .1 .1 .1 .0) (c .before .before .draw2 .last .1 .1 .1 .0)
-    (c .before .before .before .before .before .before .before .before .before .before .if1 .left) (c .before .before .before .before .before .before .before .before .before .shown .ensures) (c .before .before .before .before .before .before .before .draw .ensures) (c .before .before .draw2 .ensures)
+    let args = c .before .before .before .before .before .before .before .before .before .before .before .before .before .args in
+    let shown = c .before .before .before .before .before .before .before .before .before .shown in
+    let told = c .before .before .before .before .before .before .before .draw in
+    let halted = c .before .before .draw2 in
+    both (args .message .now) (shown .result .now) (args .partition) (args .part) (told .result) (halted .result)
+    (args .screens .now) (told .last .1 .1 .1 .0) (halted .last .1 .1 .1 .0)
+    (c .before .before .before .before .before .before .before .before .before .before .if1 .left) (shown .ensures) (told .ensures) (halted .ensures)
 
 pub halt-spec : {M : Type 1} → statement M
 halt-spec =

@@ -1,7 +1,7 @@
--- `console::random::read_random` meets its contract. Assumes nothing.
+-- `console::random::read_random` meets its contract: the piece that is read from is the partition's screen. Assumes nothing.
 use borrow.Author.Tests.{eq-eqb, ne-eqb}
 use Rattle.checks.specs.Settle.{settle}
-use Rattle.console.specs.Console.{refusal, cellsOf, cellsRead, readRandom}
+use Rattle.console.specs.Console.{refusal, cellsOf, cellsMoved, readRandom}
 use borrow.Author.Needs.{needs}
 use Rattle.console.proofs.random.read_random.Statement.{statement}
 use Rattle.console.proofs.random.read_random.Tie as tie
@@ -9,9 +9,12 @@ use Rattle.console.proofs.random.read_random.Tie as tie
 refusal-requires : tie.Need-refusal-requires
 refusal-requires c κs = search needs
 
+refused-requires : tie.Need-refused-requires
+refused-requires c κs = search needs
+
 returns : tie.Need-returns
 unfolding readRandom settle refusal
-returns c = rw (← c .before .refusal .ensures, ne-eqb _ _ (c .if1 .taken))
+returns c = rw (c .refused .ensures, ← c .before .before .refusal .ensures, ne-eqb _ _ (c .before .if1 .taken))
 
 mul-at : tie.Need-mul-at
 mul-at c = search needs
@@ -26,14 +29,16 @@ same-length : tie.Need-same-length
 same-length c = search needs
 
 returns-2 : tie.Need-returns-2
-unfolding readRandom settle cellsRead cellsOf
-returns-2 c = rw (← c .before .before .before .before .before .before .refusal .ensures, eq-eqb _ _ (c .before .before .before .before .before .if1 .left), ← c .before .before .before .before .piece .ensures, ← c .before .before .read-at .ensures)
+unfolding readRandom settle cellsMoved cellsOf
+returns-2 c =
+    rw (← c .before .before .before .before .before .before .refusal .ensures, eq-eqb _ _ (c .before .before .before .before .before .if1 .left), ← c .before .before .before .before .piece .ensures, ← c .before .before .read-at .ensures)
 
 pub read-random-spec : {M : Type 1} → statement M
 read-random-spec =
     tie.close
     (tie.spec
     refusal-requires
+    refused-requires
     returns
     mul-at
     piece-requires
