@@ -19,14 +19,15 @@ module _ {A : Type 0} (f : A → Bool) where
   allOf-snoc [] x = and-true (f x)
   allOf-snoc (y ∷ l) x = rw (allOf-snoc l x, and-assoc (f y) (allOf f l) (f x))
 
-  -- one turn of a loop that has tested the first i
-  pub allOf-step : (l : List A) (i : ℕ) (d : A) (all : Bool) → i < length l → all ≡ allOf f (take i l)
+  -- one turn of a loop that has tested the first i of n
+  pub allOf-step : {n : ℕ} (l : List A) (i : ℕ) (d : A) (all : Bool) → length l ≡ n → i < n → all ≡ allOf f (take i l)
       → (all && f (getD l i d)) ≡ allOf f (take (i + 1) l)
-  allOf-step l i d all h e = rw (add-one i, take-suc l i d h, allOf-snoc (take i l) (getD l i d), e)
+  allOf-step {n} l i d all size h e =
+      let k : i < length l = omega arith in rw (add-one i, take-suc l i d k, allOf-snoc (take i l) (getD l i d), e)
 
   -- its end
-  pub allOf-end : (l : List A) (i : ℕ) (all : Bool) → length l ≤ i → all ≡ allOf f (take i l) → all ≡ allOf f l
-  allOf-end l i all h e = rw (take-all i l h) at e
+  pub allOf-end : {n : ℕ} (l : List A) (i : ℕ) (all : Bool) → length l ≡ n → n ≤ i → all ≡ allOf f (take i l) → all ≡ allOf f l
+  allOf-end {n} l i all size h e = let k : length l ≤ i = omega arith in rw (take-all i l k) at e
 
 -- a place and a length, without their sum
 pub no-wrap : (place n area : ℕ) → place ≤ area → leb n (area - place) ≡ leb (place + n) area

@@ -14,7 +14,9 @@ is-active-requires c κs = search needs
 
 returns : tie.Need-returns
 unfolding fault
-returns c = rw (← c .before .before .running .ensures, ← c .before .is-active .ensures, not-true (c .before .before .running .result && c .before .is-active .result) (c .if1 .taken))
+returns c =
+    let off = not-true (c .before .before .running .result && c .before .is-active .result) (c .if1 .taken) in
+    rw (← c .before .before .running .ensures, ← c .before .is-active .ensures, off)
 
 part-requires : tie.Need-part-requires
 part-requires c κs = search needs
@@ -27,7 +29,9 @@ with-part-requires c κs = search needs
 
 returns-2 : tie.Need-returns-2
 unfolding fault
-returns-2 c = rw (c .with-part .ensures, c .before .with-fault .ensures, c .before .before .part .ensures, ← c .before .before .before .before .before .running .ensures, ← c .before .before .before .before .is-active .ensures, not-false (c .before .before .before .before .before .running .result && c .before .before .before .before .is-active .result) (c .before .before .before .if1 .left))
+returns-2 c =
+    let on = not-false (c .before .before .before .before .before .running .result && c .before .before .before .before .is-active .result) (c .before .before .before .if1 .left) in
+    rw (c .with-part .ensures, c .before .with-fault .ensures, c .before .before .part .ensures, ← c .before .before .before .before .before .running .ensures, ← c .before .before .before .before .is-active .ensures, on)
 
 pub fault-spec : {M : Type 1} → statement M
 fault-spec =

@@ -1,4 +1,5 @@
--- `guard::events::seek` meets its contract: the loop's invariant is that the search from here ends where the search from the start does; the measure is what is left to look at. Assumes nothing.
+-- `guard::events::seek` meets its contract. The loop's invariant: the search from here ends where the search from the start does.
+-- The measure is what is left to look at. Assumes nothing.
 use mathlib.Core.Path.{_≡_, sym, _∙_}
 use native.Mathlib.Omega.{arith}
 use borrow.Author.Needs.{needs}

@@ -1,4 +1,5 @@
--- `guard::test::good_segments` meets its contract: the loop's invariant is that the flag says whether the first i are good; the measure is what is left of the 32. Assumes nothing.
+-- `guard::test::good_segments` meets its contract. The loop's invariant: the flag says whether the first i are good.
+-- The measure is what is left of the 32. Assumes nothing.
 use borrow.Author.Needs.{needs}
 use native.Mathlib.Omega.{arith}
 use mathlib.Core.Path.{_≡_, refl}
@@ -35,10 +36,14 @@ loop-less : tie.Need-loop-less Inv-loop μ-loop
 loop-less c = omega arith
 
 loop-again : tie.Need-loop-again Inv-loop μ-loop
-loop-again c = (let n : length (c .before .before .before .before .args .t2) ≡ 32 = search needs in rw (c .good-segment .ensures) (allOf-step (goodSegment (c .before .before .before .before .args .kept)) (c .before .before .before .before .args .t2) (c .before .before .before .loop .i) _ (c .before .before .before .loop .all) (omega arith) (c .before .before .before .loop .inv .0)), omega arith)
+loop-again c =
+    let size : length (c .before .before .before .before .args .t2) ≡ 32 = search needs in
+    (rw (c .good-segment .ensures) (allOf-step _ _ (c .before .before .before .loop .i) _ _ size (omega arith) (c .before .before .before .loop .inv .0)), omega arith)
 
 returns : tie.Need-returns Inv-loop μ-loop
-returns c = let n : length (c .before .before .args .t2) ≡ 32 = search needs in allOf-end (goodSegment (c .before .before .args .kept)) (c .before .before .args .t2) (c .before .loop .i) (c .before .loop .all) (omega arith) (c .before .loop .inv .0)
+returns c =
+    let size : length (c .before .before .args .t2) ≡ 32 = search needs in
+    allOf-end _ _ _ _ size (c .loop-test .left) (c .before .loop .inv .0)
 
 pub good-segments-spec : {M : Type 1} → statement M
 good-segments-spec =
