@@ -8,7 +8,7 @@ use Rattle.terminal.specs.Terminal.{Outcome, answer, outcome, withPartit
 
 -- what became of the calling partition becomes of the terminal
 unfoldable pub replied : Terminal → ℕ → ConsoleOutcome → Outcome
-replied t p o = outcome (answer (o .answer .number) (o .answer .count) (withPartition p (o .answer .part) t)) (o .lent)
+replied t p o = outcome (answer (o .reply .number) (o .reply .count) (withPartition p (o .reply .part) t)) (o .lent)
 
 unfoldable pub readNext : Terminal → ℕ → ℕ → ℕ → ℕ → List ℕ → Outcome
 readNext t p major minor request buffer = replied t p (keysRead (guardOf t false p) (partitionOf t p) p major minor request buffer)

@@ -2,5 +2,6 @@
 pub mod Terminal
 pub mod DeviceCalls
 pub mod MemoryCalls
+pub mod AccountCalls
 pub mod StopCalls
 pub mod Events

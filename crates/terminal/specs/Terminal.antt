@@ -11,6 +11,7 @@ use Rattle.state.specs.declared.State.{State}
 use Rattle.state.specs.Empty.{noPlan, noState}
 use Rattle.state.specs.Parts.{isActive, seatAt, partAt, withPart, withLogin}
 use Rattle.guard.specs.Guard.{guard}
+use Rattle.accounts.specs.Users.{readable}
 use Rattle.terminal.specs.declared.Terminal.{Terminal}
 use Rattle.terminal.specs.declared.Answer.{Answer}
 
@@ -63,3 +64,7 @@ guardOf t wrong p = guard (t .plan) (t .state) wrong p
 -- "a lent area not as long as at start"
 unfoldable pub differs : List ℕ → ℕ → Bool
 differs area kept = not (eqb (length area) kept)
+
+-- ".. or a place or count .. read in a password table, that leads outside its area": for the calls that read the table, of an active partition
+unfoldable pub tablesWrong : Terminal → ℕ → List ℕ → Bool
+tablesWrong t p tables = differs tables (t .plan .kept .tables) || (isActive (t .plan) p && not (readable (recordOf t p) (tableOf t p tables)))

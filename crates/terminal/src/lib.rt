@@ -7,6 +7,7 @@ use state::Plan;
 use state::Seat;
 use state::State;
 
+mod account_calls;
 mod device_calls;
 mod events;
 mod memory_calls;
