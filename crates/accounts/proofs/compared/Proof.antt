@@ -3,15 +3,15 @@ use mathlib.Core.Bool.{true, false}
 use mathlib.Core.List.{List}
 use mathlib.Core.Path.{_≡_, sym, _∙_}
 use Prim.Native.Nat.{ℕ}
+use borrow.Author.Needs.{needs}
 use Rattle.octets.specs.Lists.{part}
 use Rattle.octets.specs.Same.{sameBytes}
 use Rattle.sha256.specs.Digest.{digest}
+use Rattle.state.specs.declared.LoginRecord.{LoginRecord}
 use Rattle.passwords.specs.declared.Lookup.the-variants.{At}
 use Rattle.passwords.specs.Account.{digestLength}
-use Rattle.state.specs.declared.LoginRecord.{LoginRecord}
 use Rattle.accounts.specs.declared.Digested.{Digested}
 use Rattle.accounts.specs.Login.{attempt, user, digested, tried}
-use borrow.Author.Needs.{needs}
 use Rattle.accounts.proofs.compared.Statement.{statement}
 use Rattle.accounts.proofs.compared.Tie as tie
 

@@ -1,7 +1,7 @@
 -- `accounts::digest_counted` meets its contract: a string has one block. Assumes nothing.
+use borrow.Author.Needs.{needs}
 use Rattle.accounts.specs.Login.{digested}
 use Rattle.accounts.specs.WorkLaws.{one-block}
-use borrow.Author.Needs.{needs}
 use Rattle.accounts.proofs.digest_counted.Statement.{statement}
 use Rattle.accounts.proofs.digest_counted.Tie as tie
 

@@ -1,9 +1,9 @@
 -- `accounts::login` meets its contract: a refusal keeps who is logged in. Assumes nothing.
-use Rattle.accounts.specs.Login.{loginChecks, login}
+use borrow.Author.Needs.{needs}
+use borrow.Author.Tests.{eq-eqb, ne-eqb}
 use Rattle.checks.specs.Checks.{after}
 use Rattle.checks.specs.Settle.{settle}
-use borrow.Author.Tests.{eq-eqb, ne-eqb}
-use borrow.Author.Needs.{needs}
+use Rattle.accounts.specs.Login.{loginChecks, login}
 use Rattle.accounts.proofs.login.Statement.{statement}
 use Rattle.accounts.proofs.login.Tie as tie
 

@@ -1,6 +1,6 @@
 -- `accounts::readable` meets its contract: by what the table and the login record are. Assumes nothing.
-use Rattle.accounts.specs.Users.{readable}
 use borrow.Author.Needs.{needs}
+use Rattle.accounts.specs.Users.{readable}
 use Rattle.accounts.proofs.readable.Statement.{statement}
 use Rattle.accounts.proofs.readable.Tie as tie
 

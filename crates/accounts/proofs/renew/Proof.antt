@@ -1,6 +1,6 @@
 -- `accounts::renew` meets its contract: the digest is that of the string. Assumes nothing.
-use Rattle.accounts.specs.SetPassword.{fileImage}
 use borrow.Author.Needs.{needs}
+use Rattle.accounts.specs.SetPassword.{fileImage}
 use Rattle.accounts.proofs.renew.Statement.{statement}
 use Rattle.accounts.proofs.renew.Tie as tie
 

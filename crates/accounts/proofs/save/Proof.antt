@@ -1,7 +1,7 @@
 -- `accounts::save` meets its contract: the file is written first, and then laid over the table. Assumes nothing.
-use Rattle.accounts.specs.SetPassword.{onStore, inMemory}
-use Rattle.octets.specs.WriteLaws.{writeAt-zero}
 use borrow.Author.Needs.{needs}
+use Rattle.octets.specs.WriteLaws.{writeAt-zero}
+use Rattle.accounts.specs.SetPassword.{onStore, inMemory}
 use Rattle.accounts.proofs.save.Statement.{statement}
 use Rattle.accounts.proofs.save.Tie as tie
 

@@ -1,9 +1,9 @@
 -- `accounts::set_password` meets its contract: a refusal writes nothing; the number comes from the file as it was. Assumes nothing.
-use Rattle.accounts.specs.SetPassword.{setChecks, setPassword}
+use borrow.Author.Needs.{needs}
+use borrow.Author.Tests.{eq-eqb, ne-eqb}
 use Rattle.checks.specs.Checks.{after}
 use Rattle.checks.specs.Settle.{settle}
-use borrow.Author.Tests.{eq-eqb, ne-eqb}
-use borrow.Author.Needs.{needs}
+use Rattle.accounts.specs.SetPassword.{setChecks, setPassword}
 use Rattle.accounts.proofs.set_password.Statement.{statement}
 use Rattle.accounts.proofs.set_password.Tie as tie
 
@@ -40,7 +40,19 @@ same-length-2 c = search needs
 
 returns-2 : tie.Need-returns-2
 unfolding setPassword setChecks after settle
-returns-2 c = rw (c .before .before .before .before .before .before .before .before .before .before .before .written .ensures, c .before .before .before .before .save .ensures .1, c .before .before .before .before .save .ensures .0, c .before .before .before .before .before .before .before .before .before .renew .ensures, ← c .before .before .before .before .before .before .before .before .before .before .before .before .before .before .before .before .before .is-user .ensures, ← c .before .before .before .before .before .before .before .before .before .before .before .before .before .before .before .is-string .ensures, ← c .before .before .before .before .before .before .before .before .before .before .before .before .before .before .before .before .refuse .ensures, ← c .before .before .before .before .before .before .before .before .before .before .before .before .before .before .refuse2 .ensures, eq-eqb _ _ (c .before .before .before .before .before .before .before .before .before .before .before .before .before .if1 .left))
+returns-2 c =
+    let checked = c .before .before .before .before .before .before .before .before .before .before .before .before .before in
+    rw (
+      c .before .before .before .before .before .before .before .before .before .before .before .written .ensures,
+      c .before .before .before .before .save .ensures .1,
+      c .before .before .before .before .save .ensures .0,
+      c .before .before .before .before .before .before .before .before .before .renew .ensures,
+      ← checked .before .before .before .before .is-user .ensures,
+      ← checked .before .before .is-string .ensures,
+      ← checked .before .before .before .refuse .ensures,
+      ← checked .before .refuse2 .ensures,
+      eq-eqb _ _ (checked .if1 .left),
+    )
 
 pub set-password-spec : {M : Type 1} → statement M
 set-password-spec =

@@ -2,11 +2,11 @@
 use mathlib.Core.List.{List, [], _∷_, _++_}
 use mathlib.Core.Path.{_≡_}
 use Prim.Native.Nat.{ℕ}
+use native.Mathlib.Nat.{zero-add}
+use borrow.Author.Needs.{needs}
 use lib.ListN.{length}
 use Rattle.octets.specs.Lists.{over, writeAt}
 use Rattle.octets.specs.WriteLaws.{writeAt-zero, writeAt-append}
-use native.Mathlib.Nat.{zero-add}
-use borrow.Author.Needs.{needs}
 use Rattle.accounts.specs.Users.{userName}
 use Rattle.accounts.proofs.tell.Statement.{statement}
 use Rattle.accounts.proofs.tell.Tie as tie

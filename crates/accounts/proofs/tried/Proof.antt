@@ -1,9 +1,9 @@
 -- `accounts::tried` meets its contract: by the two answers of the lookup. Assumes nothing.
 use mathlib.Core.Path.{sym, _∙_}
 use native.Mathlib.Omega.{arith}
+use borrow.Author.Needs.{needs}
 use Rattle.accounts.specs.Login.{tried}
 use Rattle.accounts.specs.WorkLaws.{few-read}
-use borrow.Author.Needs.{needs}
 use Rattle.accounts.proofs.tried.Statement.{statement}
 use Rattle.accounts.proofs.tried.Tie as tie
 

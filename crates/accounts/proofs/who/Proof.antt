@@ -1,9 +1,9 @@
 -- `accounts::who` meets its contract: a refusal writes nothing. Assumes nothing.
-use Rattle.accounts.specs.Who.{whoChecks, who}
+use borrow.Author.Needs.{needs}
+use borrow.Author.Tests.{eq-eqb, ne-eqb}
 use Rattle.checks.specs.Checks.{after}
 use Rattle.checks.specs.Settle.{settle}
-use borrow.Author.Tests.{eq-eqb, ne-eqb}
-use borrow.Author.Needs.{needs}
+use Rattle.accounts.specs.Who.{whoChecks, who}
 use Rattle.accounts.proofs.who.Statement.{statement}
 use Rattle.accounts.proofs.who.Tie as tie
 

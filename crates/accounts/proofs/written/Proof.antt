@@ -1,6 +1,6 @@
 -- `accounts::written` meets its contract: by its one test. Assumes nothing.
-use Rattle.accounts.specs.SetPassword.{written}
 use borrow.Author.Tests.{lt-ltb, le-ltb}
+use Rattle.accounts.specs.SetPassword.{written}
 use Rattle.accounts.proofs.written.Statement.{statement}
 use Rattle.accounts.proofs.written.Tie as tie
 

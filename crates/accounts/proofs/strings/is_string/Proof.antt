@@ -1,7 +1,7 @@
 -- `accounts::strings::is_string` meets its contract: as many bytes are looked at as there are, and 33 at most. Assumes nothing.
-use Rattle.accounts.specs.Strings.{ending, isString}
-use lib.ListN.{length-take}
 use borrow.Author.Needs.{needs}
+use lib.ListN.{length-take}
+use Rattle.accounts.specs.Strings.{ending, isString}
 use Rattle.accounts.proofs.strings.is_string.Statement.{statement}
 use Rattle.accounts.proofs.strings.is_string.Tie as tie
 

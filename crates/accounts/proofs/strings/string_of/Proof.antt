@@ -1,7 +1,7 @@
--- `accounts::strings::string_of` meets its contract: what is cut off at place 0 is nothing. Assumes nothing.
-use Rattle.accounts.specs.Strings.{ending, stringOf}
-use Rattle.octets.specs.PartLaws.{part-def}
+-- `accounts::strings::string_of` meets its contract: a part from place 0 on is the first bytes. Assumes nothing.
 use borrow.Author.Needs.{needs}
+use Rattle.octets.specs.PartLaws.{part-def}
+use Rattle.accounts.specs.Strings.{ending, stringOf}
 use Rattle.accounts.proofs.strings.string_of.Statement.{statement}
 use Rattle.accounts.proofs.strings.string_of.Tie as tie
 

@@ -1,6 +1,6 @@
 -- `accounts::users::place_of` meets its contract: by the two things that a login record can hold. Assumes nothing.
-use Rattle.accounts.specs.Users.{placeOf}
 use borrow.Author.Needs.{needs}
+use Rattle.accounts.specs.Users.{placeOf}
 use Rattle.accounts.proofs.users.place_of.Statement.{statement}
 use Rattle.accounts.proofs.users.place_of.Tie as tie
 

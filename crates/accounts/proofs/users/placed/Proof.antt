@@ -1,6 +1,6 @@
 -- `accounts::users::placed` meets its contract: by the two things that a login record can hold. Assumes nothing.
-use Rattle.accounts.specs.Users.{placed}
 use borrow.Author.Needs.{needs}
+use Rattle.accounts.specs.Users.{placed}
 use Rattle.accounts.proofs.users.placed.Statement.{statement}
 use Rattle.accounts.proofs.users.placed.Tie as tie
 

@@ -1,7 +1,7 @@
 -- `accounts::users::user_name` meets its contract: nobody has the empty part of the table, the user has a record's name. Assumes nothing.
-use Rattle.accounts.specs.Users.{userName}
-use Rattle.octets.specs.PartLaws.{part-def}
 use borrow.Author.Needs.{needs}
+use Rattle.octets.specs.PartLaws.{part-def}
+use Rattle.accounts.specs.Users.{userName}
 use Rattle.accounts.proofs.users.user_name.Statement.{statement}
 use Rattle.accounts.proofs.users.user_name.Tie as tie
 
