@@ -1,0 +1,4 @@
+-- The configuration database.
+pub mod Database
+pub mod Row
+pub mod DatabaseLaws
