@@ -2,3 +2,4 @@
 pub mod Database
 pub mod Row
 pub mod DatabaseLaws
+pub mod LaidLaws

@@ -22,7 +22,12 @@ same-length c = search needs
 
 returns-2 : tie.Need-returns-2
 unfolding configuration after settle
-returns-2 c = rw (← c .before .before .before .before .before .refuse .ensures, eq-eqb _ _ (c .before .before .before .before .if1 .left), c .before .before .put-database .ensures)
+returns-2 c =
+    rw (
+      ← c .before .before .before .before .before .refuse .ensures,
+      eq-eqb _ _ (c .before .before .before .before .if1 .left),
+      c .before .before .put-database .ensures,
+    )
 
 pub configuration-spec : {M : Type 1} → statement M
 configuration-spec =

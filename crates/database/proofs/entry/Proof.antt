@@ -1,5 +1,5 @@
 -- `database::entry` meets its contract: four numbers over zeros, and the path behind them. Assumes nothing.
-use Rattle.database.specs.DatabaseLaws.{entry-made}
+use Rattle.database.specs.LaidLaws.{entry-made}
 use borrow.Author.Needs.{needs}
 use Rattle.database.proofs.entry.Statement.{statement}
 use Rattle.database.proofs.entry.Tie as tie
@@ -19,7 +19,11 @@ lay-requires c κs = search needs
 returns : tie.Need-returns
 returns c =
     let args = c .before .before .before .before .before .before .before .args in
-    rw (c .before .lay .ensures, c .before .before .before .before .put-four .ensures) (entry-made (args .kind) (args .selector) (args .size) (args .right) (args .path .now))
+    rw (
+      c .before .lay .ensures,
+      c .before .before .before .before .put-four .ensures,
+    )
+    (entry-made (args .kind) (args .selector) (args .size) (args .right) (args .path .now))
 
 pub entry-spec : {M : Type 1} → statement M
 entry-spec =

@@ -1,6 +1,6 @@
 -- `database::entry_of` meets its contract, by what its callees ensure; a size counts modulo 2^32. Assumes nothing.
 use Rattle.database.specs.Database.{entryOf, pathOf}
-use Rattle.database.specs.DatabaseLaws.{size-cut}
+use Rattle.database.specs.LaidLaws.{size-cut}
 use borrow.Author.Needs.{needs}
 use Rattle.database.proofs.entry_of.Statement.{statement}
 use Rattle.database.proofs.entry_of.Tie as tie
@@ -25,7 +25,15 @@ entry-requires c κs = search needs
 
 returns : tie.Need-returns
 unfolding entryOf pathOf
-returns c = rw (c .entry .ensures, c .before .piece .ensures, c .before .before .selector-of .ensures, c .before .before .before .kind-of .ensures, c .before .before .before .before .before .before .segment .ensures, size-cut)
+returns c =
+    rw (
+      c .entry .ensures,
+      c .before .piece .ensures,
+      c .before .before .selector-of .ensures,
+      c .before .before .before .kind-of .ensures,
+      c .before .before .before .before .before .before .segment .ensures,
+      size-cut,
+    )
 
 pub entry-of-spec : {M : Type 1} → statement M
 entry-of-spec =

@@ -1,5 +1,5 @@
 -- `database::put_database` meets its contract: zeros, the entries behind the header's place, and the header. Assumes nothing.
-use Rattle.database.specs.DatabaseLaws.{whole}
+use Rattle.database.specs.LaidLaws.{whole}
 use borrow.Author.Needs.{needs}
 use Rattle.database.proofs.put_database.Statement.{statement}
 use Rattle.database.proofs.put_database.Tie as tie
@@ -22,7 +22,8 @@ returns c =
     let clear = c .before .before .before .before .before .before .before .before .before .before .clear in
     let rows = c .before .before .before .before .before .before .put-entries in
     let header = c .before .before .put-header in
-    whole (args .plan) (args .permissions) (args .store .now) (args .partition) (rows .result) (args .buffer .now) (clear .last .0) (rows .last .1 .1 .1 .1 .0) (header .last .0)
+    whole (args .plan) (args .permissions) (args .store .now) (args .partition)
+    (rows .result) (args .buffer .now) (clear .last .0) (rows .last .1 .1 .1 .1 .0) (header .last .0)
     (clear .ensures) (rows .ensures) (header .ensures)
 
 pub put-database-spec : {M : Type 1} → statement M

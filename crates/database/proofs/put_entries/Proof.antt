@@ -1,9 +1,9 @@
--- `database::put_entries` meets its contract. The loop's invariant: the entries of the rows passed are laid and counted. The measure is what is left of the 32 rows. Assumes nothing.
+-- `database::put_entries` meets its contract: in the loop the entries of the rows passed are laid and counted. Assumes nothing.
 use mathlib.Core.Path.{_≡_}
 use Prim.Native.Nat.{_-_, _≤_}
 use native.Mathlib.Omega.{arith}
 use Rattle.database.specs.Row.{Rows}
-use Rattle.database.specs.DatabaseLaws.{rows-start, rows-step, rows-most, rows-length}
+use Rattle.database.specs.LaidLaws.{rows-start, rows-step, rows-most, rows-length}
 use Rattle.database.proofs.put_entries.Statement.{statement}
 use Rattle.database.proofs.put_entries.Tie as tie
 

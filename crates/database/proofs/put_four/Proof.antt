@@ -3,7 +3,7 @@ use mathlib.Core.List.{_++_}
 use mathlib.Core.Path.{sym}
 use Rattle.octets.specs.Numbers.{spelled}
 use Rattle.octets.specs.WriteLaws.{writeAt-out}
-use Rattle.database.specs.DatabaseLaws.{behind, length-two}
+use Rattle.database.specs.LaidLaws.{behind, length-two}
 use borrow.Author.Needs.{needs}
 use Rattle.database.proofs.put_four.Statement.{statement}
 use Rattle.database.proofs.put_four.Tie as tie
@@ -28,7 +28,11 @@ same-length c = search needs
 returns-2 : tie.Need-returns-2
 returns-2 c =
     let args = c .before .before .before .before .before .before .before .before .before .before .args in
-    rw (c .before .before .put-two2 .ensures, c .before .before .before .before .before .before .put-two .ensures) (behind (args .at) 8 (spelled 4 (args .a) ++ spelled 4 (args .b)) (spelled 4 (args .c) ++ spelled 4 (args .d)) (args .to .now) (length-two (args .a) (args .b)))
+    rw (
+      c .before .before .put-two2 .ensures,
+      c .before .before .before .before .before .before .put-two .ensures,
+    )
+    (behind (args .at) 8 (spelled 4 (args .a) ++ spelled 4 (args .b)) (spelled 4 (args .c) ++ spelled 4 (args .d)) (args .to .now) (length-two (args .a) (args .b)))
 
 pub put-four-spec : {M : Type 1} → statement M
 put-four-spec =

@@ -1,6 +1,6 @@
 -- `database::put_row` meets its contract: a row without a right adds nothing, another one entry. Assumes nothing.
 use mathlib.Core.Path.{sym, _∙_}
-use Rattle.database.specs.DatabaseLaws.{row-none, row-one}
+use Rattle.database.specs.LaidLaws.{row-none, row-one}
 use borrow.Author.Needs.{needs}
 use Rattle.database.proofs.put_row.Statement.{statement}
 use Rattle.database.proofs.put_row.Tie as tie
@@ -40,7 +40,8 @@ returns-2 c =
     let right = c .before .before .before .before .before .before .before .right in
     let entry = c .before .before .before .before .before .entry-of in
     let lay = c .before .before .lay in
-    row-one (args .row) (args .count) (right .result) (args .buffer .now) (lay .last .1 .0) (right .ensures) (c .before .before .before .before .before .before .if1 .left) (rw (entry .ensures) at (lay .ensures))
+    row-one (args .row) (args .count) (right .result) (args .buffer .now) (lay .last .1 .0) (right .ensures)
+    (c .before .before .before .before .before .before .if1 .left) (rw (entry .ensures) at (lay .ensures))
 
 pub put-row-spec : {M : Type 1} → statement M
 put-row-spec =

@@ -4,7 +4,7 @@ use mathlib.Core.Path.{sym}
 use Rattle.octets.specs.Numbers.{spelled}
 use Rattle.octets.specs.NumberLaws.{length-spelled}
 use Rattle.octets.specs.WriteLaws.{writeAt-out}
-use Rattle.database.specs.DatabaseLaws.{behind}
+use Rattle.database.specs.LaidLaws.{behind}
 use borrow.Author.Needs.{needs}
 use Rattle.database.proofs.put_two.Statement.{statement}
 use Rattle.database.proofs.put_two.Tie as tie
@@ -29,7 +29,11 @@ same-length c = search needs
 returns-2 : tie.Need-returns-2
 returns-2 c =
     let args = c .before .before .before .before .before .before .before .before .before .before .args in
-    rw (c .before .before .write322 .ensures, c .before .before .before .before .before .before .write32 .ensures) (behind (args .at) 4 (spelled 4 (args .a)) (spelled 4 (args .b)) (args .to .now) (length-spelled 4 (args .a)))
+    rw (
+      c .before .before .write322 .ensures,
+      c .before .before .before .before .before .before .write32 .ensures,
+    )
+    (behind (args .at) 4 (spelled 4 (args .a)) (spelled 4 (args .b)) (args .to .now) (length-spelled 4 (args .a)))
 
 pub put-two-spec : {M : Type 1} → statement M
 put-two-spec =
