@@ -4,7 +4,7 @@ use mathlib.Core.Path.{_≡_, refl}
 use Prim.Native.Nat.{ℕ}
 use borrow.Author.Tests.{ne-eqb}
 use lib.ListN.{length, take}
-use Rattle.octets.specs.Lists.{part, over, writeAt, onPart}
+use Rattle.octets.specs.Lists.{part, over, writeAt}
 use Rattle.octets.specs.OnPartLaws.{length-onPart}
 use Rattle.octets.specs.WriteLaws.{length-over, length-writeAt}
 use Rattle.checks.specs.Checks.{after}

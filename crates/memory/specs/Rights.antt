@@ -8,7 +8,8 @@ use Rattle.state.specs.declared.Plan.{Plan}
 use Rattle.state.specs.Parts.{segmentAt}
 use Rattle.memory.specs.declared.Reach.{Reach}
 
--- "Selectors: 256 + index for a dseg, 512 + index for an mseg": the segment's row, 0 to 15 for a dseg and 16 to 31 for an mseg, as in the permission table; 32 where it names none
+-- "Selectors: 256 + index for a dseg, 512 + index for an mseg": the segment's row, 0 to 15 for a dseg and 16 to 31 for an mseg, as in the
+-- permission table; 32 where it names none
 unfoldable pub rowOf : ℕ → ℕ
 rowOf selector =
     cond (leb 256 selector && ltb selector 272) (selector - 256)

@@ -30,7 +30,13 @@ refuse-requires-3 c κs = search needs
 
 returns : tie.Need-returns
 unfolding flush flushChecks after settle
-returns c = rw (← c .before .before .before .before .before .refuse .ensures, ← c .before .before .before .refuse2 .ensures, ← c .before .refuse3 .ensures, ne-eqb _ _ (c .if1 .taken))
+returns c =
+    rw (
+      ← c .before .before .before .before .before .refuse .ensures,
+      ← c .before .before .before .refuse2 .ensures,
+      ← c .before .refuse3 .ensures,
+      ne-eqb _ _ (c .if1 .taken),
+    )
 
 piece-requires : tie.Need-piece-requires
 piece-requires c κs = search needs
@@ -46,14 +52,36 @@ same-length c = search needs
 
 returns-2 : tie.Need-returns-2
 unfolding flush flushChecks after settle bytesOf
-returns-2 c = rw (← c .before .before .before .before .before .before .before .before .before .before .before .before .before .refuse .ensures, ← c .before .before .before .before .before .before .before .before .before .before .before .refuse2 .ensures, ← c .before .before .before .before .before .before .before .before .before .refuse3 .ensures, eq-eqb _ _ (c .before .before .before .before .before .before .before .before .if1 .left), c .before .before .before .before .place .ensures, c .before .before .before .before .before .before .piece2 .ensures, c .before .before .before .before .before .before .before .piece .ensures, first-bytes, lt-ltb _ _ (c .if2 .taken))
+returns-2 c =
+    rw (
+      ← c .before .before .before .before .before .before .before .before .before .before .before .before .before .refuse .ensures,
+      ← c .before .before .before .before .before .before .before .before .before .before .before .refuse2 .ensures,
+      ← c .before .before .before .before .before .before .before .before .before .refuse3 .ensures,
+      eq-eqb _ _ (c .before .before .before .before .before .before .before .before .if1 .left),
+      c .before .before .before .before .place .ensures,
+      c .before .before .before .before .before .before .piece2 .ensures,
+      c .before .before .before .before .before .before .before .piece .ensures,
+      first-bytes,
+      lt-ltb _ _ (c .if2 .taken),
+    )
 
 same-length-2 : tie.Need-same-length-2
 same-length-2 c = search needs
 
 returns-3 : tie.Need-returns-3
 unfolding flush flushChecks after settle bytesOf
-returns-3 c = rw (← c .before .before .before .before .before .before .before .before .before .before .before .before .before .refuse .ensures, ← c .before .before .before .before .before .before .before .before .before .before .before .refuse2 .ensures, ← c .before .before .before .before .before .before .before .before .before .refuse3 .ensures, eq-eqb _ _ (c .before .before .before .before .before .before .before .before .if1 .left), c .before .before .before .before .place .ensures, c .before .before .before .before .before .before .piece2 .ensures, c .before .before .before .before .before .before .before .piece .ensures, first-bytes, le-ltb _ _ (c .if2 .left))
+returns-3 c =
+    rw (
+      ← c .before .before .before .before .before .before .before .before .before .before .before .before .before .refuse .ensures,
+      ← c .before .before .before .before .before .before .before .before .before .before .before .refuse2 .ensures,
+      ← c .before .before .before .before .before .before .before .before .before .refuse3 .ensures,
+      eq-eqb _ _ (c .before .before .before .before .before .before .before .before .if1 .left),
+      c .before .before .before .before .place .ensures,
+      c .before .before .before .before .before .before .piece2 .ensures,
+      c .before .before .before .before .before .before .before .piece .ensures,
+      first-bytes,
+      le-ltb _ _ (c .if2 .left),
+    )
 
 pub flush-spec : {M : Type 1} → statement M
 flush-spec =

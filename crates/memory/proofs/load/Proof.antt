@@ -19,7 +19,13 @@ refuse-requires-2 c κs = search needs
 
 returns : tie.Need-returns
 unfolding load loadChecks after settle
-returns c = rw (← c .before .before .before .before .leaves .ensures, ← c .before .before .refuse .ensures, ← c .before .refuse2 .ensures, ne-eqb _ _ (c .if1 .taken))
+returns c =
+    rw (
+      ← c .before .before .before .before .leaves .ensures,
+      ← c .before .before .refuse .ensures,
+      ← c .before .refuse2 .ensures,
+      ne-eqb _ _ (c .if1 .taken),
+    )
 
 piece-requires : tie.Need-piece-requires
 piece-requires c κs = search needs
@@ -35,7 +41,17 @@ same-length c = search needs
 
 returns-2 : tie.Need-returns-2
 unfolding load loadChecks after settle bytesOf
-returns-2 c = rw (← c .before .before .before .before .before .before .before .before .before .before .leaves .ensures, ← c .before .before .before .before .before .before .before .before .refuse .ensures, ← c .before .before .before .before .before .before .before .refuse2 .ensures, eq-eqb _ _ (c .before .before .before .before .before .before .if1 .left), c .before .before .lay .ensures, c .before .before .before .before .piece2 .ensures, c .before .before .before .before .before .piece .ensures, writeAt-zero)
+returns-2 c =
+    rw (
+      ← c .before .before .before .before .before .before .before .before .before .before .leaves .ensures,
+      ← c .before .before .before .before .before .before .before .before .refuse .ensures,
+      ← c .before .before .before .before .before .before .before .refuse2 .ensures,
+      eq-eqb _ _ (c .before .before .before .before .before .before .if1 .left),
+      c .before .before .lay .ensures,
+      c .before .before .before .before .piece2 .ensures,
+      c .before .before .before .before .before .piece .ensures,
+      writeAt-zero,
+    )
 
 pub load-spec : {M : Type 1} → statement M
 load-spec =

@@ -21,7 +21,14 @@ refuse-requires-3 c κs = search needs
 
 returns : tie.Need-returns
 unfolding store storeChecks after settle
-returns c = rw (← c .before .before .before .before .before .before .leaves .ensures, ← c .before .before .before .before .refuse .ensures, ← c .before .before .refuse2 .ensures, ← c .before .refuse3 .ensures, ne-eqb _ _ (c .if1 .taken))
+returns c =
+    rw (
+      ← c .before .before .before .before .before .before .leaves .ensures,
+      ← c .before .before .before .before .refuse .ensures,
+      ← c .before .before .refuse2 .ensures,
+      ← c .before .refuse3 .ensures,
+      ne-eqb _ _ (c .if1 .taken),
+    )
 
 place-requires : tie.Need-place-requires
 place-requires c κs = search needs
@@ -31,7 +38,15 @@ same-length c = search needs
 
 returns-2 : tie.Need-returns-2
 unfolding store storeChecks after settle
-returns-2 c = rw (← c .before .before .before .before .before .before .before .before .before .before .leaves .ensures, ← c .before .before .before .before .before .before .before .before .refuse .ensures, ← c .before .before .before .before .before .before .refuse2 .ensures, ← c .before .before .before .before .before .refuse3 .ensures, eq-eqb _ _ (c .before .before .before .before .if1 .left), c .before .before .place .ensures)
+returns-2 c =
+    rw (
+      ← c .before .before .before .before .before .before .before .before .before .before .leaves .ensures,
+      ← c .before .before .before .before .before .before .before .before .refuse .ensures,
+      ← c .before .before .before .before .before .before .refuse2 .ensures,
+      ← c .before .before .before .before .before .refuse3 .ensures,
+      eq-eqb _ _ (c .before .before .before .before .if1 .left),
+      c .before .before .place .ensures,
+    )
 
 pub store-spec : {M : Type 1} → statement M
 store-spec =

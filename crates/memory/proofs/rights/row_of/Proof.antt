@@ -32,11 +32,23 @@ add-result c = search needs
 
 returns-4 : tie.Need-returns-4
 unfolding rowOf
-returns-4 c = rw (le-leb 256 _ (c .before .before .before .if1 .left), le-ltb _ 272 (c .before .before .if2 .left), le-leb 512 _ (c .before .if3 .left), lt-ltb _ 528 (c .if4 .taken))
+returns-4 c =
+    rw (
+      le-leb 256 _ (c .before .before .before .if1 .left),
+      le-ltb _ 272 (c .before .before .if2 .left),
+      le-leb 512 _ (c .before .if3 .left),
+      lt-ltb _ 528 (c .if4 .taken),
+    )
 
 returns-5 : tie.Need-returns-5
 unfolding rowOf
-returns-5 c = rw (le-leb 256 _ (c .before .before .before .if1 .left), le-ltb _ 272 (c .before .before .if2 .left), le-leb 512 _ (c .before .if3 .left), le-ltb _ 528 (c .if4 .left))
+returns-5 c =
+    rw (
+      le-leb 256 _ (c .before .before .before .if1 .left),
+      le-ltb _ 272 (c .before .before .if2 .left),
+      le-leb 512 _ (c .before .if3 .left),
+      le-ltb _ 528 (c .if4 .left),
+    )
 
 pub row-of-spec : {M : Type 1} → statement M
 row-of-spec =
