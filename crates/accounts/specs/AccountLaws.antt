@@ -31,7 +31,8 @@ use Rattle.accounts.specs.declared.Attempt.{Attempt}
 use Rattle.accounts.specs.Strings.{stringOf}
 use Rattle.accounts.specs.Users.{placeOf, placed, readable, userName}
 use Rattle.accounts.specs.Login.{attempt, user, tried, loginChecks, login}
-use Rattle.accounts.specs.Who.{Told, told, whoChecks, who}
+use Rattle.checks.specs.Told.{Told, told}
+use Rattle.accounts.specs.Who.{whoChecks, who}
 use Rattle.accounts.specs.SetPassword.{Changed, changed, fileImage, onStore, inMemory, setChecks, setPassword}
 
 -- ---- refusals

@@ -5,17 +5,10 @@ use lib.Dec.{ltb}
 use lib.ListN.{length}
 use Rattle.checks.specs.Checks.{Check, _when_, after}
 use Rattle.checks.specs.Settle.{settle}
+use Rattle.checks.specs.Told.{Told, told}
 use Rattle.octets.specs.Lists.{over}
 use Rattle.state.specs.declared.LoginRecord.{LoginRecord}
 use Rattle.accounts.specs.Users.{userName}
-
--- the answer's number, and the lent buffer afterwards
-pub record Told : Type 0 where
-  pub number : ℕ
-  pub lent : List ℕ
-
-abbrev pub told : ℕ → List ℕ → Told
-told number lent = record { number = number; lent = lent }
 
 unfoldable pub whoChecks : List ℕ → List Check
 whoChecks buffer = (214 when ltb (length buffer) 33) ∷ []

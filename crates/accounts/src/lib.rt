@@ -19,7 +19,8 @@ ghost use Rattle.passwords.specs.declared.Lookup.the-variants.{At};
 ghost use Rattle.accounts.specs.Strings.{stringOf};
 ghost use Rattle.accounts.specs.Users.{readable, userName, placeOf};
 ghost use Rattle.accounts.specs.Login.{attempt, digested, tried, login};
-ghost use Rattle.accounts.specs.Who.{told, who};
+ghost use Rattle.accounts.specs.Who.{who};
+ghost use Rattle.checks.specs.Told.{told};
 ghost use Rattle.accounts.specs.SetPassword.{changed, fileImage, onStore, inMemory, written, setPassword};
 
 // What a login answers: a number, the work count, and who is logged in then.

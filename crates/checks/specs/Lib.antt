@@ -2,3 +2,4 @@
 pub mod Checks
 pub mod Laws
 pub mod Settle
+pub mod Told

@@ -11,7 +11,7 @@ use Rattle.checks.specs.Settle.{settle}
 use Rattle.state.specs.declared.Plan.{Plan}
 use Rattle.state.specs.Parts.{segmentAt}
 use Rattle.memory.specs.Rights.{rightOf}
-use Rattle.memory.specs.Memory.{Told, told}
+use Rattle.checks.specs.Told.{Told, told}
 
 -- bytes filled up with zeros to n, and cut where there are more
 unfoldable pub filled : ℕ → List ℕ → List ℕ

@@ -15,7 +15,7 @@ use Rattle.checks.specs.Checks.{_when_, after}
 use Rattle.checks.specs.Settle.{by-settle}
 use Rattle.state.specs.declared.Plan.{Plan}
 use Rattle.memory.specs.Rights.{rowOf, rightOf}
-use Rattle.memory.specs.Memory.{Told, told}
+use Rattle.checks.specs.Told.{Told, told}
 use Rattle.memory.specs.MemoryLaws.{settle-refused}
 use Rattle.database.specs.Database.{filled, selectorOf, entry, entryOf, listed, entries, entryCount, header, database, configuration}
 

@@ -11,7 +11,7 @@ ghost use Prim.Native.Nat.{_<_};
 ghost use lib.ListN.{replicate};
 ghost use Rattle.octets.specs.Lists.{over, writeAt};
 ghost use Rattle.octets.specs.Numbers.{spelled};
-ghost use Rattle.memory.specs.Memory.{told};
+ghost use Rattle.checks.specs.Told.{told};
 ghost use Rattle.database.specs.Database.{kindOf, selectorOf, entryOf, header, database};
 ghost use Rattle.database.specs.Database.{entry as Database·entry};
 ghost use Rattle.database.specs.Database.{configuration as Database·configuration};

@@ -7,16 +7,9 @@ use lib.ListN.{length, take}
 use Rattle.octets.specs.Lists.{part, over, writeAt, onPart}
 use Rattle.checks.specs.Checks.{Check, _when_, after}
 use Rattle.checks.specs.Settle.{settle}
+use Rattle.checks.specs.Told.{Told, told}
 use Rattle.state.specs.declared.Segment.{Segment}
 use Rattle.memory.specs.declared.Reach.{Reach}
-
--- the number that a call answers, and what was lent to be changed as it is afterwards
-pub record Told : Type 0 where
-  pub number : ℕ
-  pub lent : List ℕ
-
-abbrev pub told : ℕ → List ℕ → Told
-told number lent = record { number = number; lent = lent }
 
 -- the segment's bytes in the arena
 unfoldable pub bytesOf : Segment → List ℕ → List ℕ

@@ -10,7 +10,8 @@ use Rattle.octets.specs.WriteLaws.{length-over, length-writeAt}
 use Rattle.checks.specs.Checks.{after}
 use Rattle.checks.specs.Settle.{settle, by-settle}
 use Rattle.memory.specs.declared.Reach.{Reach}
-use Rattle.memory.specs.Memory.{Told, told, bytesOf, loadChecks, load, storeChecks, store, flushChecks, flush}
+use Rattle.checks.specs.Told.{Told, told}
+use Rattle.memory.specs.Memory.{bytesOf, loadChecks, load, storeChecks, store, flushChecks, flush}
 
 -- ---- lengths
 

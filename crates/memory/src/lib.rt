@@ -6,7 +6,7 @@ use state::Segment;
 ghost use mathlib.Core.Path.{_≡_};
 ghost use Prim.Native.Nat.{_+_};
 ghost use lib.Dec.{ltb};
-ghost use Rattle.memory.specs.Memory.{told};
+ghost use Rattle.checks.specs.Told.{told};
 ghost use Rattle.memory.specs.Memory.{load as Memory·load};
 ghost use Rattle.memory.specs.Memory.{store as Memory·store};
 ghost use Rattle.memory.specs.Memory.{flush as Memory·flush};

@@ -8,11 +8,11 @@ use Rattle.state.specs.Empty.{nobody}
 use Rattle.state.specs.Parts.{seatAt}
 use Rattle.accounts.specs.declared.Attempt.{Attempt}
 use Rattle.accounts.specs.Login.{login as attempted}
-use Rattle.accounts.specs.Who.{Told, who as named}
+use Rattle.accounts.specs.Who.{who as named}
 use Rattle.accounts.specs.SetPassword.{Changed, setPassword as changed}
 use Rattle.terminal.specs.declared.Terminal.{Terminal}
 use Rattle.terminal.specs.declared.Answer.{Answer}
-use Rattle.terminal.specs.Terminal.{Outcome, answer, outcome, recordOf, withRecord, tableOf, fileOf, guardOf, differs, tablesWrong}
+use Rattle.terminal.specs.Terminal.{Outcome, answer, unmoved, recordOf, withRecord, tableOf, fileOf, guardOf, differs, tablesWrong}
 
 unfoldable pub tried : Terminal → ℕ → Attempt → Answer
 tried t p a = answer (a .number) (a .count) (withRecord p (a .login) t)
@@ -20,11 +20,8 @@ tried t p a = answer (a .number) (a .count) (withRecord p (a .login) t)
 unfoldable pub login : Terminal → ℕ → List ℕ → List ℕ → List ℕ → Answer
 login t p name password tables = tried t p (attempted (guardOf t (tablesWrong t p tables) p) (recordOf t p) (tableOf t p tables) name password)
 
-unfoldable pub spoken : Terminal → Told → Outcome
-spoken t o = outcome (answer (o .number) 0 t) (o .lent)
-
 unfoldable pub who : Terminal → ℕ → List ℕ → List ℕ → Outcome
-who t p tables buffer = spoken t (named (guardOf t (tablesWrong t p tables) p) (recordOf t p) (tableOf t p tables) buffer)
+who t p tables buffer = unmoved t (named (guardOf t (tablesWrong t p tables) p) (recordOf t p) (tableOf t p tables) buffer)
 
 -- "Logout always succeeds past the common checks"
 unfoldable pub logout : Terminal → ℕ → Answer

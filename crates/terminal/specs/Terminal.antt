@@ -4,6 +4,7 @@ use mathlib.Core.List.{List}
 use Prim.Native.Nat.{ℕ}
 use lib.Dec.{eqb}
 use lib.ListN.{length}
+use Rattle.checks.specs.Told.{Told}
 use Rattle.octets.specs.Lists.{part}
 use Rattle.state.specs.declared.Partition.{Partition}
 use Rattle.state.specs.declared.LoginRecord.{LoginRecord}
@@ -29,6 +30,10 @@ pub record Outcome : Type 0 where
 
 abbrev pub outcome : Answer → List ℕ → Outcome
 outcome a lent = record { answer = a; lent = lent }
+
+-- the outcome of a call that leaves the terminal as it was
+unfoldable pub unmoved : Terminal → Told → Outcome
+unmoved t o = outcome (answer (o .number) 0 t) (o .lent)
 
 -- ---- what moves
 

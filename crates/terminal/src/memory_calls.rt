@@ -6,7 +6,7 @@ use memory::rights;
 ghost use mathlib.Core.Path.{_≡_};
 ghost use Rattle.memory.specs.Rights.{reach};
 ghost use Rattle.terminal.specs.Terminal.{outcome};
-ghost use Rattle.terminal.specs.MemoryCalls.{load, store, flush};
+ghost use Rattle.terminal.specs.MemoryCalls.{load, store, flush, configuration};
 
 impl Terminal {
     // What a selector gives the calling partition.
@@ -72,6 +72,22 @@ impl Terminal {
         );
         let reach = self.reach(permissions, partition, selector);
         let number = memory::flush(n, reach, taken, arena, store);
+        self.answer(number, 0)
+    }
+
+    // Writes the configuration database into the buffer.
+    pub fn configuration(
+        mut self,
+        permissions: [[u8; 8]; 32],
+        partition: u32,
+        store: &[u8],
+        buffer: &mut [u8],
+    ) -> Answer
+        ensures { λ r. ⌜ outcome r (now (buffer .exit)) ≡ configuration self permissions partition (now (store .entry)) (now (buffer .entry)) ⌝ }
+    {
+        let n = self.guard(store.len() != self.plan.kept.store, partition);
+        let plan = self.plan;
+        let number = database::configuration(n, plan, permissions, partition, store, buffer);
         self.answer(number, 0)
     }
 }

@@ -1,5 +1,5 @@
-use Rattle.terminal.specs.MemoryCalls.{flush, told}
-use Rattle.terminal.specs.Terminal.{differs}
+use Rattle.terminal.specs.MemoryCalls.{flush}
+use Rattle.terminal.specs.Terminal.{unmoved, differs}
 use borrow.Author.Needs.{needs}
 use Rattle.terminal.proofs.Terminal.flush.Statement.{statement}
 use Rattle.terminal.proofs.Terminal.flush.Tie as tie
@@ -20,7 +20,7 @@ same-length : tie.Need-same-length
 same-length c = search needs
 
 returns : tie.Need-returns
-unfolding flush told differs
+unfolding flush unmoved differs
 returns c = rw (c .answer .ensures, ← c .before .before .before .before .before .before .guard .ensures, ← c .before .before .before .before .before .reach .ensures, ← c .before .before .before .flush .ensures)
 
 pub flush-spec : {M : Type 1} → statement M

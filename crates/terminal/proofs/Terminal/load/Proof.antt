@@ -1,5 +1,5 @@
-use Rattle.terminal.specs.MemoryCalls.{load, told}
-use Rattle.terminal.specs.Terminal.{differs}
+use Rattle.terminal.specs.MemoryCalls.{load}
+use Rattle.terminal.specs.Terminal.{unmoved, differs}
 use borrow.Author.Needs.{needs}
 use Rattle.terminal.proofs.Terminal.load.Statement.{statement}
 use Rattle.terminal.proofs.Terminal.load.Tie as tie
@@ -20,7 +20,7 @@ same-length : tie.Need-same-length
 same-length c = search needs
 
 returns : tie.Need-returns
-unfolding load told differs
+unfolding load unmoved differs
 returns c = rw (c .answer .ensures, ← c .before .before .before .before .before .before .guard .ensures, ← c .before .before .before .before .before .reach .ensures, ← c .before .before .before .load .ensures)
 
 pub load-spec : {M : Type 1} → statement M

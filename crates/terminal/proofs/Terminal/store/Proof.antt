@@ -1,5 +1,5 @@
-use Rattle.terminal.specs.MemoryCalls.{store, told}
-use Rattle.terminal.specs.Terminal.{differs}
+use Rattle.terminal.specs.MemoryCalls.{store}
+use Rattle.terminal.specs.Terminal.{unmoved, differs}
 use borrow.Author.Needs.{needs}
 use Rattle.terminal.proofs.Terminal.store.Statement.{statement}
 use Rattle.terminal.proofs.Terminal.store.Tie as tie
@@ -20,7 +20,7 @@ same-length : tie.Need-same-length
 same-length c = search needs
 
 returns : tie.Need-returns
-unfolding store told differs
+unfolding store unmoved differs
 returns c = rw (c .answer .ensures, ← c .before .before .before .before .before .before .guard .ensures, ← c .before .before .before .before .before .reach .ensures, ← c .before .before .before .store .ensures)
 
 pub store-spec : {M : Type 1} → statement M

@@ -1,4 +1,5 @@
-use Rattle.terminal.specs.AccountCalls.{who, spoken}
+use Rattle.terminal.specs.AccountCalls.{who}
+use Rattle.terminal.specs.Terminal.{unmoved}
 use borrow.Author.Needs.{needs}
 use Rattle.terminal.proofs.Terminal.who.Statement.{statement}
 use Rattle.terminal.proofs.Terminal.who.Tie as tie
@@ -25,7 +26,7 @@ same-length : tie.Need-same-length
 same-length c = search needs
 
 returns : tie.Need-returns
-unfolding who spoken
+unfolding who unmoved
 returns c = rw (c .answer .ensures, ← c .before .before .before .before .before .before .before .before .tables-wrong .ensures, ← c .before .before .before .before .before .before .before .guard .ensures, ← c .before .before .before .before .before .before .login-of .ensures, ← c .before .before .before .before .before .table .ensures, ← c .before .before .before .who .ensures)
 
 pub who-spec : {M : Type 1} → statement M
