@@ -1,11 +1,14 @@
--- Laws of the calls: bytes drawn in two runs are drawn in one, the lent thing keeps its length, and what is refused changes nothing.
+-- Laws of the calls: one screen's change leaves the others alone, bytes drawn in two runs are drawn in one, the lent thing keeps its length, and what is refused changes nothing.
 use mathlib.Core.Bool.{Bool, true, false, cond}
 use mathlib.Core.List.{List, _++_}
+use mathlib.Core.Logic.{inl, inr}
 use mathlib.Core.Path.{_≡_, refl, ap, sym, _∙_}
-use Prim.Native.Nat.{ℕ, _*_}
+use Prim.Native.Nat.{ℕ, _*_, _≤_}
+use native.Mathlib.Decide.{decLe}
+use native.Mathlib.Omega.{arith}
 use lib.ListN.{length, take}
 use Rattle.octets.specs.Lists.{part, KeepsLength}
-use Rattle.octets.specs.OnPartLaws.{onPart-same, onPart-twice, part-onPart-same, length-onPart}
+use Rattle.octets.specs.OnPartLaws.{Apart, onPart-same, onPart-twice, part-onPart-same, part-onPart-apart, length-onPart}
 use Rattle.octets.specs.WriteLaws.{length-over}
 use Rattle.checks.specs.Checks.{after}
 use Rattle.checks.specs.Settle.{settle, by-settle}
@@ -19,6 +22,17 @@ use Rattle.state.specs.Parts.{withCursor}
 use Rattle.console.specs.DeviceChecks.{deviceChecks}
 use Rattle.console.specs.Console.{Outcome, refusal, keysTaken, readNext, cellsOf, onCells, cellsMoved, readRandom, written, writeRandom, Drawn, drawing, drawn, bytesPut, writeNext}
 use Rattle.console.specs.Halt.{shownMessage, notice, halt}
+
+-- ---- one screen of the area
+
+-- what is done to partition p's screen leaves q's alone
+pub cells-apart : (p q : ℕ) (f : List ℕ → List ℕ) → KeepsLength f → (screens : List ℕ) → (p ≡ q → ⊥) → cellsOf q (onCells p f screens) ≡ cellsOf q screens
+unfolding cellsOf onCells
+cells-apart p q f keeps screens h = part-onPart-apart f keeps (2000 * p) 2000 (2000 * q) 2000 screens (go (decLe p q))
+  where
+    go : Dec (p ≤ q) → Apart (2000 * p) 2000 (2000 * q) 2000
+    go (yes l) = inl (omega arith)
+    go (no l) = inr (omega arith)
 
 -- ---- bytes on a screen
 
