@@ -1,8 +1,8 @@
 -- Laws of a thing for each number below n.
 use mathlib.Core.List.{List, [], _∷_, _++_, append-nil}
 use mathlib.Core.Path.{_≡_, refl, sym, ap, _∙_}
-use Prim.Native.Nat.{ℕ, zero, suc, _+_, _≤_, _<_}
-use native.Mathlib.Nat.{not-suc-le-zero}
+use Prim.Native.Nat.{ℕ, zero, suc, _+_, _≤_, _<_, min}
+use native.Mathlib.Decide.{decLe}
 use native.Mathlib.Numerals.{add-one}
 use native.Mathlib.Omega.{arith}
 use lib.ListN.{length, take, getD, set, length-append}
@@ -23,3 +23,26 @@ module _ {A : Type 0} where
 
   pub firsts-end : (f : ℕ → A) (row : List A) (i n : ℕ) → length row ≡ n → i ≡ n → take i row ≡ firsts f i → row ≡ firsts f n
   firsts-end f row i n h k e = sym (take-all i row (omega arith)) ∙ e ∙ rw k
+
+-- ---- sums
+
+pub total-mono : (f : ℕ → ℕ) (i n : ℕ) → i ≤ n → total f i ≤ total f n
+unfolding total
+total-mono f i zero h = let e : i ≡ 0 = omega arith in rw e (omega arith)
+total-mono f i (suc n) h = go (total-mono f i n) (decLe i n)
+  where
+    go : (i ≤ n → total f i ≤ total f n) → Dec (i ≤ n) → total f i ≤ total f (suc n)
+    go rest (yes k) = let r = rest k in omega arith
+    go rest (no k) = let e : i ≡ suc n = omega arith in rw e (omega arith)
+
+pub total-more : (f : ℕ → ℕ) (i : ℕ) → total f (i + 1) ≡ total f i + f i
+unfolding total
+total-more f i = rw add-one
+
+-- a sum that stays inside a limit is not cut off there
+pub sum-step : (f : ℕ → ℕ) (i n limit at size : ℕ) → total f n ≤ limit → i < n → at ≡ total f i → size ≡ f i
+    → min (at + size) limit ≡ total f (i + 1)
+sum-step f i n limit at size h k e g =
+    let mono : total f (i + 1) ≤ total f n = total-mono f (i + 1) n (omega arith) in
+    let more : total f (i + 1) ≡ total f i + f i = total-more f i in
+    omega arith

@@ -30,7 +30,9 @@ unfoldable pub tablesImage : Plan → List ℕ → List ℕ
 tablesImage plan store = joined (tableOf plan store) 8
 
 -- "Active partitions' screens (p's from byte 2,000 × p) become spaces (32), other screen bytes stay", of the n first partitions
+unfoldable pub blankScreen : List ℕ
+blankScreen = replicate 2000 32
+
 unfoldable pub cleared : Plan → ℕ → List ℕ → List ℕ
 cleared plan zero screens = screens
-cleared plan (suc n) screens =
-    cond (isActive plan n) (writeAt (2000 * n) (replicate 2000 32) (cleared plan n screens)) (cleared plan n screens)
+cleared plan (suc n) screens = cond (isActive plan n) (writeAt (2000 * n) blankScreen (cleared plan n screens)) (cleared plan n screens)

@@ -3,5 +3,7 @@ pub mod Each
 pub mod EachLaws
 pub mod Files
 pub mod Planned
+pub mod PlannedLaws
 pub mod Filled
+pub mod FilledLaws
 pub mod Start

@@ -65,17 +65,20 @@ seatOf s files p =
 
 -- ---- all of it
 
-unfoldable pub planOf : Bool → Setup → List ℕ → List ℕ → Kept → Plan
-planOf soft s text store kept =
+unfoldable pub planned : Bool → Setup → List Span → List Span → Kept → Plan
+planned soft s files passwords kept =
     record {
       count = s .partitions;
       soft = soft;
       dsegs = s .dsegcount;
       msegs = s .msegcount;
-      seats = firsts (seatOf s (passwordFiles s store)) 8;
-      segments = firsts (segmentOf s (dsegFiles s text store)) 32;
+      seats = firsts (seatOf s passwords) 8;
+      segments = firsts (segmentOf s files) 32;
       kept = kept;
     }
+
+unfoldable pub planOf : Bool → Setup → List ℕ → List ℕ → Kept → Plan
+planOf soft s text store kept = planned soft s (dsegFiles s text store) (passwordFiles s store) kept
 
 -- the lowest active partition, of p and those behind it, n looked at
 unfoldable pub lowest : ℕ → Setup → ℕ → ℕ

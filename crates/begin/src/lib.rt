@@ -3,6 +3,8 @@ use state::Plan;
 use state::State;
 
 mod files;
+mod filling;
+mod planning;
 
 // A refusal's number and line, with an empty plan and state; or 0 and 0, with the plan and the first state.
 pub struct Begun {
