@@ -3,10 +3,11 @@ use mathlib.Core.List.{List, [], _∷_, _++_, append-nil}
 use mathlib.Core.Path.{_≡_, refl, sym, ap, _∙_}
 use Prim.Native.Nat.{ℕ, zero, suc, _+_, _≤_, _<_, min}
 use native.Mathlib.Decide.{decLe}
+use native.Mathlib.Nat.{not-suc-le-zero}
 use native.Mathlib.Numerals.{add-one}
 use native.Mathlib.Omega.{arith}
-use lib.ListN.{length, take, getD, set, length-append}
-use lib.Seq.{take-suc-set, take-all}
+use lib.ListN.{length, take, getD, set, length-append, List·getD-append}
+use lib.Seq.{take-suc-set, take-all, getD-at}
 use Rattle.begin.specs.Each.{firsts, total}
 
 module _ {A : Type 0} where
@@ -14,6 +15,15 @@ module _ {A : Type 0} where
   unfolding firsts
   length-firsts f zero = refl
   length-firsts f (suc n) = rw (length-append, length-firsts f n, add-one)
+
+  pub getD-firsts : (f : ℕ → A) (n i : ℕ) (d : A) → i < n → getD (firsts f n) i d ≡ f i
+  unfolding firsts
+  getD-firsts f zero i d h = absurd (not-suc-le-zero h)
+  getD-firsts f (suc n) i d h = go (getD-firsts f n i d) (decLe n i)
+    where
+      go : (i < n → getD (firsts f n) i d ≡ f i) → Dec (n ≤ i) → getD (firsts f n ++ (f n ∷ [])) i d ≡ f i
+      go rest (yes k) = let e : i ≡ n = omega arith in rw e (getD-at (firsts f n) (f n) [] d n (length-firsts f n))
+      go rest (no k) = let less : i < n = omega arith in List·getD-append (firsts f n) (f n ∷ []) d i (rw length-firsts less) ∙ rest less
 
   -- a row that is filled in order
   pub firsts-step : (f : ℕ → A) (row : List A) (i : ℕ) (x : A) → i < length row → take i row ≡ firsts f i → x ≡ f i

@@ -9,6 +9,7 @@ use Rattle.checks.specs.Checks.{_when_, after}
 use Rattle.checks.specs.Settle.{settle}
 use Rattle.image.specs.Image.{good, spot, file, wasFound}
 use Rattle.passwords.specs.PasswordFile.{wellFormed}
+use Rattle.setup.specs.declared.Span.{Span}
 use Rattle.setup.specs.declared.Setup.{Setup}
 use Rattle.setup.specs.declared.Outcome.{Outcome}
 use Rattle.setup.specs.Setup.{isActive}
@@ -33,11 +34,14 @@ unfoldable pub described : ℕ → List Bool → List ℕ → List ℕ → Outco
 described count active text store =
     settle (early count active text store) (read true store text count active) (refusal (early count active text store) 0)
 
--- 415: "arena, table or screen area too short (a missing file counts 0)", areas of so many bytes; 2,000 bytes of screen for every partition
+-- 415: "arena, table or screen area too short (a missing file counts 0)", areas of so many bytes and files at these places of the store; "a screen
+-- area of 2,000 bytes for each partition", passive ones too
+unfoldable pub noRoom : Setup → List Span → List Span → ℕ → ℕ → ℕ → Bool
+noRoom s files passwords arena tables screens =
+    ltb arena (startOf s files 32) || (ltb tables (tableStart passwords 8) || ltb screens (2000 * s .partitions))
+
 unfoldable pub short : Setup → List ℕ → List ℕ → ℕ → ℕ → ℕ → Bool
-short s text store arena tables screens =
-    ltb arena (startOf s (dsegFiles s text store) 32) ||
-    (ltb tables (tableStart (passwordFiles s store) 8) || ltb screens (2000 * s .partitions))
+short s text store arena tables screens = noRoom s (dsegFiles s text store) (passwordFiles s store) arena tables screens
 
 -- 416: "an active partition's password file missing or malformed", of the n first partitions
 unfoldable pub badFile : List ℕ → List ℕ → Bool
@@ -47,7 +51,7 @@ unfoldable pub badPasswords : ℕ → Setup → List ℕ → Bool
 badPasswords zero s store = false
 badPasswords (suc n) s store = (isActive s n && badFile (passwordPath n) store) || badPasswords n s store
 
--- all of them: number and line, and the set-up
+-- all of them: number and line, which 415 and 416 do not have, and the set-up
 unfoldable pub verdict : ℕ → List Bool → List ℕ → List ℕ → ℕ → ℕ → ℕ → Outcome
 verdict count active text store arena tables screens =
     let o : Outcome = described count active text store in
@@ -56,7 +60,7 @@ verdict count active text store arena tables screens =
           after (o .number) (
           (415 when short (o .setup) text store arena tables screens) ∷
           (416 when badPasswords 8 (o .setup) store) ∷ []);
-      line = o .line;
+      line = settle (o .number) 0 (o .line);
       setup = o .setup;
     }
 
