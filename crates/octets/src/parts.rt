@@ -1,6 +1,7 @@
 // Parts of a row: a part lent, and bytes copied into a part.
 ghost use mathlib.Core.Path.{_≡_};
 ghost use Prim.Native.Nat.{_+_, min};
+ghost use lib.ListN.{replicate};
 ghost use Rattle.octets.specs.Lists.{part, writeAt, onPart};
 
 // The smaller of two numbers.
@@ -51,4 +52,17 @@ pub fn place(from: &[u8], to: &mut [u8], at: usize, n: usize, offset: usize)
     }
     let start = sum(at, offset, to.len());
     lay(piece(from, 0, n - offset), to, start);
+}
+
+// Makes the n bytes from place `at` on all the same, as many of them as there are.
+pub fn fill(to: &mut [u8], at: usize, n: usize, byte: u8)
+    ensures { λ _. ⌜ now (to .exit) ≡ writeAt at (replicate n byte) (now (to .entry)) ⌝ }
+{
+    let start = least(at, to.len());
+    let end = sum(start, n, to.len());
+    let mut i = start;
+    while i < end {
+        to[i] = byte;
+        i += 1;
+    }
 }

@@ -1,0 +1,59 @@
+-- `begin::files::password_files` meets its contract. The loop's invariant: the files of the first p partitions are found. The measure is how many are left. Assumes nothing.
+use mathlib.Core.Path.{_≡_, refl, _∙_}
+use Prim.Native.Nat.{_≤_, _-_}
+use lib.ListN.{length, take, length-set}
+use Rattle.begin.specs.Each.{firsts}
+use Rattle.begin.specs.EachLaws.{firsts-step, firsts-end}
+use Rattle.begin.specs.Files.{passwordFile, passwordFiles}
+use native.Mathlib.Omega.{arith}
+use borrow.Author.Needs.{needs}
+use Rattle.begin.proofs.files.password_files.Statement.{statement}
+use Rattle.begin.proofs.files.password_files.Tie as tie
+
+abbrev Inv-loop : tie.InvT-loop
+Inv-loop setup store files₀ p₀ files p =
+    (take p files ≡ firsts (passwordFile setup store) p) × ((length files ≡ 8) × (p ≤ 8))
+
+abbrev μ-loop : tie.MeasureT-loop
+μ-loop setup store files₀ p₀ files p = 8 - p
+
+loop-holds : tie.Need-loop-holds Inv-loop μ-loop
+unfolding firsts
+loop-holds c = (refl, (refl, omega arith))
+
+password-file-requires : tie.Need-password-file-requires Inv-loop μ-loop
+password-file-requires c κs = search needs
+
+mul-files : tie.Need-mul-files Inv-loop μ-loop
+mul-files c = search needs
+
+array-set-from-files : tie.Need-array-set-from-files Inv-loop μ-loop
+array-set-from-files c = omega arith
+
+add-p : tie.Need-add-p Inv-loop μ-loop
+add-p c = omega arith
+
+loop-less : tie.Need-loop-less Inv-loop μ-loop
+loop-less c = omega arith
+
+loop-again : tie.Need-loop-again Inv-loop μ-loop
+loop-again c = (firsts-step (passwordFile (c .before .before .before .before .args .setup) (c .before .before .before .before .args .store .now)) (c .before .before .loop .files) (c .before .before .loop .p) (c .password-file .result) (omega arith) (c .before .before .loop .inv .0) (c .password-file .ensures), (simp length-set (c .before .before .loop .inv .1 .0), omega arith))
+
+returns : tie.Need-returns Inv-loop μ-loop
+unfolding passwordFiles
+returns c = firsts-end (passwordFile (c .before .before .before .args .setup) (c .before .before .before .args .store .now)) (c .before .loop .files) (c .before .loop .p) 8 (c .before .loop .inv .1 .0) (omega arith) (c .before .loop .inv .0)
+
+pub password-files-spec : {M : Type 1} → statement M
+password-files-spec =
+    tie.close
+    (tie.spec
+    Inv-loop
+    μ-loop
+    loop-holds
+    password-file-requires
+    mul-files
+    array-set-from-files
+    add-p
+    loop-less
+    loop-again
+    returns)

@@ -1,0 +1,146 @@
+-- Start, refusal by refusal: what the first that is due makes of it, and what none makes of it.
+use mathlib.Core.Bool.{Bool, true, false, _||_}
+use mathlib.Core.List.{List, [], _∷_}
+use mathlib.Core.Path.{_≡_, refl, sym, _∙_}
+use Prim.Native.Nat.{ℕ, _≤_}
+use native.Mathlib.Omega.{arith}
+use borrow.Author.Tests.{eq-eqb, ne-eqb, ltb-false}
+use lib.Dec.{ltb}
+use lib.ListN.{length}
+use Rattle.checks.specs.Checks.{Check, _when_, refused, after}
+use Rattle.checks.specs.Laws.{not-due}
+use Rattle.checks.specs.Settle.{settle}
+use Rattle.setup.specs.declared.Span.{Span}
+use Rattle.setup.specs.declared.Setup.{Setup}
+use Rattle.setup.specs.declared.Outcome.{Outcome}
+use Rattle.setup.specs.Reading.{read, refusal, permissionTable}
+use Rattle.begin.specs.Files.{dsegFiles, passwordFiles}
+use Rattle.octets.specs.Lists.{over}
+use Rattle.state.specs.declared.Kept.{Kept}
+use Rattle.state.specs.declared.Plan.{Plan}
+use Rattle.state.specs.declared.State.{State}
+use Rattle.begin.specs.Filled.{arenaImage, tablesImage, cleared}
+use Rattle.begin.specs.Planned.{startOf, tableStart, planned, planOf, firstState}
+use Rattle.begin.specs.Start.{Beginning, early, described, noRoom, short, badPasswords, verdict, beginning, accepted, filled, start}
+use Rattle.begin.specs.Start.{refused as refusedStart}
+
+settle-zero : {A : Type 0} (n : ℕ) (x y : A) → n ≡ 0 → settle n x y ≡ x
+unfolding settle
+settle-zero n x y e = rw (eq-eqb n 0 e)
+
+settle-other : {A : Type 0} (n : ℕ) (x y : A) → (n ≡ 0 → ⊥) → settle n x y ≡ y
+unfolding settle
+settle-other n x y e = rw (ne-eqb n 0 e)
+
+-- a refusal hides those behind it
+after-kept : (n : ℕ) (checks : List Check) → (n ≡ 0 → ⊥) → after n checks ≡ n
+unfolding after refused
+after-kept n [] e = refl
+after-kept n (c ∷ checks) e = rw (ne-eqb n 0 e) (after-kept n checks e)
+
+-- 415 and 416 of a set-up
+abbrev pub lateOf : Setup → List Span → List Span → List ℕ → ℕ → ℕ → ℕ → ℕ
+lateOf s files passwords store arena tables screens =
+    after 0 (
+    (415 when noRoom s files passwords arena tables screens) ∷
+    (416 when badPasswords 8 s store) ∷ [])
+
+-- where nothing is refused there is room
+module _ (s : Setup) (files passwords : List Span) (store : List ℕ) (arena tables screens : ℕ) where
+  room : lateOf s files passwords store arena tables screens ≡ 0 → noRoom s files passwords arena tables screens ≡ false
+  room e = not-due 0 415 (noRoom s files passwords arena tables screens) ((416 when badPasswords 8 s store) ∷ []) e (λ q. omega arith)
+
+  first : (a b : Bool) → (a || b) ≡ false → a ≡ false
+  first true b e = e
+  first false b e = refl
+
+  second : (a b : Bool) → (a || b) ≡ false → b ≡ false
+  second true b e = cc
+  second false b e = e
+
+  pub arena-room : (n : ℕ) → n ≡ lateOf s files passwords store arena tables screens → n ≡ 0 → startOf s files 32 ≤ arena
+  unfolding noRoom
+  arena-room n e z = ltb-false arena (startOf s files 32) (first (ltb arena (startOf s files 32)) _ (room (sym e ∙ z)))
+
+  pub tables-room : (n : ℕ) → n ≡ lateOf s files passwords store arena tables screens → n ≡ 0 → tableStart passwords 8 ≤ tables
+  unfolding noRoom
+  tables-room n e z =
+      ltb-false tables (tableStart passwords 8)
+      (first (ltb tables (tableStart passwords 8)) _ (second (ltb arena (startOf s files 32)) _ (room (sym e ∙ z))))
+
+module _ (count : ℕ) (active : List Bool) (soft : Bool) (text store arena tables screens : List ℕ) (permissions : List (List ℕ)) where
+  abbrev begun : Beginning
+  begun = start count active soft text store arena tables screens permissions
+
+  abbrev judged : Outcome
+  judged = verdict count active text store (length arena) (length tables) (length screens)
+
+  -- ---- what the text describes, all refusals, and start
+
+  by-early : (n : ℕ) → n ≡ early count active text store → (n ≡ 0 → ⊥) → described count active text store ≡ refusal n 0
+  unfolding described
+  by-early n e z = rw (← e) (settle-other n (read true store text count active) (refusal n 0) z)
+
+  by-text : (n : ℕ) → n ≡ early count active text store → n ≡ 0 → described count active text store ≡ read true store text count active
+  unfolding described
+  by-text n e z = rw (← e) (settle-zero n (read true store text count active) (refusal n 0) z)
+
+  kept-verdict : (o : Outcome) → described count active text store ≡ o → (o .number ≡ 0 → ⊥)
+      → judged ≡ record { number = o .number; line = o .line; setup = o .setup }
+  unfolding verdict
+  kept-verdict o e z = rw (e, after-kept (o .number) _ z, settle-other (o .number) 0 (o .line) z)
+
+  late-verdict : (o : Outcome) → described count active text store ≡ o → o .number ≡ 0
+      → judged
+      ≡ record {
+        number = lateOf (o .setup) (dsegFiles (o .setup) text store) (passwordFiles (o .setup) store) store (length arena) (length tables) (length screens);
+        line = 0;
+        setup = o .setup;
+      }
+  unfolding verdict short
+  late-verdict o e z = rw (e, settle-zero (o .number) 0 (o .line) z, z)
+
+  start-refused : (v : Outcome) → judged ≡ v → (v .number ≡ 0 → ⊥)
+      → begun ≡ beginning (refusedStart (v .number) (v .line)) arena tables screens permissions
+  unfolding start
+  start-refused v e z = rw e (settle-other (v .number) _ _ z)
+
+  -- ---- start, as the code comes to it
+
+  -- 401 to 403
+  pub refused-early : (n : ℕ) → n ≡ early count active text store → (n ≡ 0 → ⊥)
+      → beginning (refusedStart n 0) arena tables screens permissions ≡ begun
+  refused-early n e z = sym (start-refused _ (kept-verdict (refusal n 0) (by-early n e z) z) z)
+
+  module _ (n : ℕ) (e : n ≡ early count active text store) (z : n ≡ 0) (o : Outcome) (r : o ≡ read true store text count active) where
+    text-read : described count active text store ≡ o
+    text-read = by-text n e z ∙ sym r
+
+    -- 404 to 414
+    pub refused-text : (o .number ≡ 0 → ⊥) → beginning (refusedStart (o .number) (o .line)) arena tables screens permissions ≡ begun
+    refused-text d = sym (start-refused _ (kept-verdict o text-read d) d)
+
+    module _ (whole : o .number ≡ 0) (files passwords : List Span)
+        (f : files ≡ dsegFiles (o .setup) text store) (p : passwords ≡ passwordFiles (o .setup) store)
+        (m : ℕ) (late : m ≡ lateOf (o .setup) files passwords store (length arena) (length tables) (length screens)) where
+      all-judged : judged ≡ record { number = m; line = 0; setup = o .setup }
+      all-judged = late-verdict o text-read whole ∙ rw (late, f, p)
+
+      -- 415 and 416
+      pub refused-late : (m ≡ 0 → ⊥) → beginning (refusedStart m 0) arena tables screens permissions ≡ begun
+      refused-late d = sym (start-refused _ all-judged d)
+
+      abbrev kept : Kept
+      kept = record { store = length store; arena = length arena; tables = length tables; screens = length screens }
+
+      start-done : m ≡ 0 → begun ≡ filled (planOf soft (o .setup) text store kept) (firstState (o .setup)) (permissionTable (o .setup)) store arena tables screens
+      unfolding start
+      start-done d = rw all-judged (settle-zero m _ _ d)
+
+      -- nothing refused
+      pub all-filled : m ≡ 0 → (plan : Plan) → plan ≡ planned soft (o .setup) files passwords kept → (state : State) → state ≡ firstState (o .setup)
+          → (memory users cells : List ℕ) (table : List (List ℕ)) → memory ≡ over (arenaImage plan store) arena → users ≡ over (tablesImage plan store) tables
+          → cells ≡ cleared plan 8 screens → table ≡ permissionTable (o .setup) → beginning (accepted plan state) memory users cells table ≡ begun
+      unfolding filled planOf
+      all-filled d plan pe state se memory users cells table me ue ce te =
+          rw (me, ue, ce, te, se, pe, f, p) (sym (start-done d))
