@@ -13,15 +13,22 @@ mod users;
 ghost use mathlib.Core.Path.{_≡_};
 ghost use mathlib.Core.List.{[], _∷_, _++_};
 ghost use Prim.Native.Nat.{_<_, _^_};
+ghost use Rattle.checks.specs.Checks.{after};
 ghost use Rattle.octets.specs.Lists.{over};
 ghost use Rattle.passwords.specs.PasswordFile.{find};
 ghost use Rattle.passwords.specs.declared.Lookup.the-variants.{At};
 ghost use Rattle.accounts.specs.Strings.{stringOf};
 ghost use Rattle.accounts.specs.Users.{readable, userName, placeOf};
+<<<<<<< HEAD
 ghost use Rattle.accounts.specs.Login.{attempt, digested, tried, login};
 ghost use Rattle.accounts.specs.Who.{who};
 ghost use Rattle.checks.specs.Told.{told};
 ghost use Rattle.accounts.specs.SetPassword.{changed, fileImage, onStore, inMemory, written, setPassword};
+=======
+ghost use Rattle.accounts.specs.Login.{attempt, digested, tried, loginChecks, login};
+ghost use Rattle.accounts.specs.Who.{told, whoChecks, who};
+ghost use Rattle.accounts.specs.SetPassword.{changed, fileImage, onStore, inMemory, written, setChecks, setPassword};
+>>>>>>> accounts
 
 // What a login answers: a number, the work count, and who is logged in then.
 pub struct Attempt {
@@ -118,13 +125,20 @@ fn tried(held: LoginRecord, table: &[u8], name: &[u8], password: &[u8]) -> Attem
     }
 }
 
-// Logs a user in. Both strings are checked before the name is looked up.
-pub fn login(n: u32, held: LoginRecord, table: &[u8], name: &[u8], password: &[u8]) -> Attempt
-    ensures { λ r. ⌜ r ≡ login n held (now (table .entry)) (now (name .entry)) (now (password .entry)) ⌝ }
+// What refuses a login. Both strings are checked before the name is looked up.
+fn login_refusal(n: u32, held: LoginRecord, name: &[u8], password: &[u8]) -> u32
+    ensures { λ r. ⌜ r ≡ after n (loginChecks held (now (name .entry)) (now (password .entry))) ⌝ }
 {
     let busy = checks::refuse(n, users::is_user(held), 301);
     let named = checks::refuse(busy, !strings::is_string(name), 302);
-    let fault = checks::refuse(named, !strings::is_string(password), 302);
+    checks::refuse(named, !strings::is_string(password), 302)
+}
+
+// Logs a user in.
+pub fn login(n: u32, held: LoginRecord, table: &[u8], name: &[u8], password: &[u8]) -> Attempt
+    ensures { λ r. ⌜ r ≡ login n held (now (table .entry)) (now (name .entry)) (now (password .entry)) ⌝ }
+{
+    let fault = login_refusal(n, held, name, password);
     if fault != 0 {
         return Attempt {
             number: fault,
@@ -145,13 +159,20 @@ fn tell(held: LoginRecord, table: &[u8], buffer: &mut [u8])
     parts::lay(&zero, buffer, name.len());
 }
 
+// What refuses a who.
+fn who_refusal(n: u32, buffer: &[u8]) -> u32
+    ensures { λ r. ⌜ r ≡ after n (whoChecks (now (buffer .entry))) ⌝ }
+{
+    checks::refuse(n, buffer.len() < NAME_ROOM, 214)
+}
+
 // Says who is logged in.
 pub fn who(n: u32, held: LoginRecord, table: &[u8], buffer: &mut [u8]) -> u32
     ensures { λ r. ⌜ told r (now (buffer .exit)) ≡ who n held (now (table .entry)) (now (buffer .entry)) ⌝ }
 {
-    let narrow = checks::refuse(n, buffer.len() < NAME_ROOM, 214);
-    if narrow != 0 {
-        return narrow;
+    let fault = who_refusal(n, buffer);
+    if fault != 0 {
+        return fault;
     }
     tell(held, table, buffer);
     0
@@ -187,6 +208,14 @@ fn save(taken: u32, file: &mut [u8], table: &mut [u8])
     parts::lay(file, table, 0);
 }
 
+// What refuses a set-password.
+fn set_refusal(n: u32, held: LoginRecord, password: &[u8]) -> u32
+    ensures { λ r. ⌜ r ≡ after n (setChecks held (now (password .entry))) ⌝ }
+{
+    let absent = checks::refuse(n, !users::is_user(held), 303);
+    checks::refuse(absent, !strings::is_string(password), 302)
+}
+
 // Gives the user a new password. The store takes the first `taken` bytes of what is written.
 pub fn set_password(
     n: u32,
@@ -198,10 +227,9 @@ pub fn set_password(
 ) -> u32
     ensures { λ r. ⌜ changed r (now (file .exit)) (now (table .exit)) ≡ setPassword n held (now (password .entry)) taken (now (file .entry)) (now (table .entry)) ⌝ }
 {
-    let absent = checks::refuse(n, !users::is_user(held), 303);
-    let barred = checks::refuse(absent, !strings::is_string(password), 302);
-    if barred != 0 {
-        return barred;
+    let fault = set_refusal(n, held, password);
+    if fault != 0 {
+        return fault;
     }
     let number = written(taken, file);
     renew(held, password, table);
