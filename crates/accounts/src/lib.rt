@@ -19,16 +19,10 @@ ghost use Rattle.passwords.specs.PasswordFile.{find};
 ghost use Rattle.passwords.specs.declared.Lookup.the-variants.{At};
 ghost use Rattle.accounts.specs.Strings.{stringOf};
 ghost use Rattle.accounts.specs.Users.{readable, userName, placeOf};
-<<<<<<< HEAD
-ghost use Rattle.accounts.specs.Login.{attempt, digested, tried, login};
-ghost use Rattle.accounts.specs.Who.{who};
 ghost use Rattle.checks.specs.Told.{told};
-ghost use Rattle.accounts.specs.SetPassword.{changed, fileImage, onStore, inMemory, written, setPassword};
-=======
 ghost use Rattle.accounts.specs.Login.{attempt, digested, tried, loginChecks, login};
-ghost use Rattle.accounts.specs.Who.{told, whoChecks, who};
+ghost use Rattle.accounts.specs.Who.{whoChecks, who};
 ghost use Rattle.accounts.specs.SetPassword.{changed, fileImage, onStore, inMemory, written, setChecks, setPassword};
->>>>>>> accounts
 
 // What a login answers: a number, the work count, and who is logged in then.
 pub struct Attempt {

@@ -11,6 +11,7 @@ mod account_calls;
 mod device_calls;
 mod events;
 mod memory_calls;
+mod start;
 mod stop_calls;
 
 ghost use mathlib.Core.Path.{_≡_};
