@@ -43,17 +43,17 @@ fn arena_short(setup: Setup, files: [Span; 16], limit: usize) -> bool
 fn tables_short(files: [Span; 8], limit: usize) -> bool
     ensures { λ r. ⌜ r ≡ ltb limit (tableStart files 8) ⌝ }
 {
-    let mut short = false;
+    let mut narrow = false;
     let mut at = 0;
     let mut p = 0;
     while p < 8 {
         let file = files[p];
         let size = file.length;
-        short = short | (limit - at < size);
+        narrow = narrow | (limit - at < size);
         at = parts::sum(at, size, limit);
         p += 1;
     }
-    short
+    narrow
 }
 
 // An area is too short. The screens are counted in the area and not multiplied, so that nothing wraps.

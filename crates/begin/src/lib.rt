@@ -55,9 +55,9 @@ fn set_up(
         tables: tables.len(),
         screens: screens.len(),
     };
-    let number = judging::late(setup, files, passwords, store, kept);
-    if number != 0 {
-        return refused(number, 0);
+    let late = judging::late(setup, files, passwords, store, kept);
+    if late != 0 {
+        return refused(late, 0);
     }
     let plan = planning::plan_of(soft, setup, files, passwords, kept);
     let state = planning::first_state(setup);
@@ -87,9 +87,9 @@ pub fn start(
 ) -> Begun
     ensures { λ r. ⌜ beginning r (now (arena .exit)) (now (tables .exit)) (now (screens .exit)) (now (permissions .exit)) ≡ start count active soft (now (text .entry)) (now (store .entry)) (now (arena .entry)) (now (tables .entry)) (now (screens .entry)) (now (permissions .entry)) ⌝ }
 {
-    let number = judging::early(count, active, text, store);
-    if number != 0 {
-        return refused(number, 0);
+    let early = judging::early(count, active, text, store);
+    if early != 0 {
+        return refused(early, 0);
     }
     let outcome = setup::read(true, store, text, count, active);
     if outcome.number != 0 {
