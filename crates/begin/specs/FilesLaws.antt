@@ -1,12 +1,12 @@
 -- A file that was found does not stand at place 0, and what stands where it was found are its contents.
-use mathlib.Core.Bool.{Bool, true, false, not, _&&_, _||_}
+use mathlib.Core.Bool.{not}
 use mathlib.Core.List.{List, [], _∷_}
-use mathlib.Core.Path.{_≡_, refl, sym, ap, _∙_}
+use mathlib.Core.Path.{_≡_, refl, sym, _∙_}
 use Prim.Native.Nat.{ℕ, _+_, _<_}
 use native.Mathlib.Omega.{arith}
 use borrow.Author.Tests.{ne-eqb}
 use lib.Dec.{eqb}
-use lib.ListN.{length, getD}
+use lib.ListN.{length}
 use Rattle.octets.specs.Lists.{part}
 use Rattle.rows.specs.Records.{chunks}
 use Rattle.rows.specs.LikeLaws.{by-test}
@@ -16,11 +16,7 @@ use Rattle.image.specs.declared.Found.the-variants.{At, Nothing}
 use Rattle.image.specs.Files.{contentsAt, named, spotIn}
 use Rattle.image.specs.Image.{spot, file, foundPart, wasFound}
 use Rattle.image.specs.PlaceLaws.{spot-none, spot-hit, spot-miss, file-place}
-use Rattle.passwords.specs.PasswordFile.{wellFormed}
-use Rattle.setup.specs.declared.Setup.{Setup}
-use Rattle.setup.specs.Setup.{noSpan, isActive}
-use Rattle.begin.specs.EachLaws.{getD-firsts}
-use Rattle.begin.specs.Files.{passwordPath, spanOf, passwordFile, passwordFiles}
+use Rattle.begin.specs.Files.{spanOf}
 use Rattle.begin.specs.Filled.{fileBytes}
 
 -- a record's header stands before the contents

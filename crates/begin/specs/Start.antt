@@ -5,7 +5,7 @@ use Prim.Native.Nat.{ℕ, zero, suc, _*_}
 use lib.Dec.{ltb}
 use lib.ListN.{length}
 use Rattle.octets.specs.Lists.{over}
-use Rattle.checks.specs.Checks.{_when_, after}
+use Rattle.checks.specs.Checks.{Check, _when_, after}
 use Rattle.checks.specs.Settle.{settle}
 use Rattle.image.specs.Image.{good, spot, file, wasFound}
 use Rattle.passwords.specs.PasswordFile.{wellFormed}
@@ -51,15 +51,17 @@ unfoldable pub badPasswords : ℕ → Setup → List ℕ → Bool
 badPasswords zero s store = false
 badPasswords (suc n) s store = (isActive s n && badFile (passwordPath n) store) || badPasswords n s store
 
+unfoldable pub lateChecks : Setup → List ℕ → List ℕ → ℕ → ℕ → ℕ → List Check
+lateChecks s text store arena tables screens =
+    (415 when short s text store arena tables screens) ∷
+    (416 when badPasswords 8 s store) ∷ []
+
 -- all of them: number and line, which 415 and 416 do not have, and the set-up
 unfoldable pub verdict : ℕ → List Bool → List ℕ → List ℕ → ℕ → ℕ → ℕ → Outcome
 verdict count active text store arena tables screens =
     let o : Outcome = described count active text store in
     record {
-      number =
-          after (o .number) (
-          (415 when short (o .setup) text store arena tables screens) ∷
-          (416 when badPasswords 8 (o .setup) store) ∷ []);
+      number = after (o .number) (lateChecks (o .setup) text store arena tables screens);
       line = settle (o .number) 0 (o .line);
       setup = o .setup;
     }
@@ -103,12 +105,15 @@ filled plan state permissions store arena tables screens =
     beginning (accepted plan state)
     (over (arenaImage plan store) arena) (over (tablesImage plan store) tables) (cleared plan 8 screens) permissions
 
--- "A refused start changes no lent byte"
-unfoldable pub start : ℕ → List Bool → Bool → List ℕ → List ℕ → List ℕ → List ℕ → List ℕ → List (List ℕ) → Beginning
-start count active soft text store arena tables screens permissions =
-    let v : Outcome = verdict count active text store (length arena) (length tables) (length screens) in
+-- a verdict carried out. "A refused start changes no lent byte"
+unfoldable pub carriedOut : Outcome → Bool → List ℕ → List ℕ → List ℕ → List ℕ → List ℕ → List (List ℕ) → Beginning
+carriedOut v soft text store arena tables screens permissions =
     settle (v .number)
     (filled
     (planOf soft (v .setup) text store (record { store = length store; arena = length arena; tables = length tables; screens = length screens }))
     (firstState (v .setup)) (permissionTable (v .setup)) store arena tables screens)
     (beginning (refused (v .number) (v .line)) arena tables screens permissions)
+
+unfoldable pub start : ℕ → List Bool → Bool → List ℕ → List ℕ → List ℕ → List ℕ → List ℕ → List (List ℕ) → Beginning
+start count active soft text store arena tables screens permissions =
+    carriedOut (verdict count active text store (length arena) (length tables) (length screens)) soft text store arena tables screens permissions

@@ -21,7 +21,7 @@ use Rattle.state.specs.declared.Plan.{Plan}
 use Rattle.state.specs.declared.State.{State}
 use Rattle.begin.specs.Filled.{arenaImage, tablesImage, cleared}
 use Rattle.begin.specs.Planned.{startOf, tableStart, planned, planOf, firstState}
-use Rattle.begin.specs.Start.{Beginning, early, described, noRoom, short, badPasswords, verdict, beginning, accepted, filled, start}
+use Rattle.begin.specs.Start.{Beginning, early, described, noRoom, short, badPasswords, lateChecks, verdict, beginning, accepted, filled, carriedOut, start}
 use Rattle.begin.specs.Start.{refused as refusedStart}
 
 settle-zero : {A : Type 0} (n : ℕ) (x y : A) → n ≡ 0 → settle n x y ≡ x
@@ -38,7 +38,7 @@ unfolding after refused
 after-kept n [] e = refl
 after-kept n (c ∷ checks) e = rw (ne-eqb n 0 e) (after-kept n checks e)
 
--- 415 and 416 of a set-up
+-- 415 and 416, of files that were found
 abbrev pub lateOf : Setup → List Span → List Span → List ℕ → ℕ → ℕ → ℕ → ℕ
 lateOf s files passwords store arena tables screens =
     after 0 (
@@ -68,79 +68,67 @@ module _ (s : Setup) (files passwords : List Span) (store : List ℕ) (arena tab
       ltb-false tables (tableStart passwords 8)
       (first (ltb tables (tableStart passwords 8)) _ (second (ltb arena (startOf s files 32)) _ (room (sym e ∙ z))))
 
-module _ (count : ℕ) (active : List Bool) (soft : Bool) (text store arena tables screens : List ℕ) (permissions : List (List ℕ)) where
-  abbrev begun : Beginning
-  begun = start count active soft text store arena tables screens permissions
+-- what is left of a start where nothing of the text was refused: 415, 416, and what is written
+unfoldable pub setUp : Setup → Bool → List ℕ → List ℕ → List ℕ → List ℕ → List ℕ → List (List ℕ) → Beginning
+setUp s soft text store arena tables screens permissions =
+    carriedOut (record { number = after 0 (lateChecks s text store (length arena) (length tables) (length screens)); line = 0; setup = s })
+    soft text store arena tables screens permissions
 
-  abbrev judged : Outcome
-  judged = verdict count active text store (length arena) (length tables) (length screens)
+module _ (soft : Bool) (text store arena tables screens : List ℕ) (permissions : List (List ℕ)) where
+  module _ (s : Setup) (files passwords : List Span) (f : files ≡ dsegFiles s text store) (p : passwords ≡ passwordFiles s store)
+      (n : ℕ) (late : n ≡ lateOf s files passwords store (length arena) (length tables) (length screens)) where
+    same-number : n ≡ after 0 (lateChecks s text store (length arena) (length tables) (length screens))
+    unfolding lateChecks short
+    same-number = rw (← f, ← p) late
 
-  -- ---- what the text describes, all refusals, and start
+    -- 415 and 416
+    pub refused-late : (n ≡ 0 → ⊥) → beginning (refusedStart n 0) arena tables screens permissions
+        ≡ setUp s soft text store arena tables screens permissions
+    unfolding setUp carriedOut
+    refused-late d = rw (← same-number) (sym (settle-other n _ _ d))
 
-  by-early : (n : ℕ) → n ≡ early count active text store → (n ≡ 0 → ⊥) → described count active text store ≡ refusal n 0
-  unfolding described
-  by-early n e z = rw (← e) (settle-other n (read true store text count active) (refusal n 0) z)
+    abbrev kept : Kept
+    kept = record { store = length store; arena = length arena; tables = length tables; screens = length screens }
 
-  by-text : (n : ℕ) → n ≡ early count active text store → n ≡ 0 → described count active text store ≡ read true store text count active
-  unfolding described
-  by-text n e z = rw (← e) (settle-zero n (read true store text count active) (refusal n 0) z)
+    -- nothing refused
+    pub all-filled : n ≡ 0 → (plan : Plan) → plan ≡ planned soft s files passwords kept → (state : State) → state ≡ firstState s
+        → (memory users cells : List ℕ) (table : List (List ℕ)) → memory ≡ over (arenaImage plan store) arena → users ≡ over (tablesImage plan store) tables
+        → cells ≡ cleared plan 8 screens → table ≡ permissionTable s
+        → beginning (accepted plan state) memory users cells table ≡ setUp s soft text store arena tables screens permissions
+    unfolding setUp carriedOut filled planOf
+    all-filled d plan pe state se memory users cells table me ue ce te =
+        rw (← same-number, me, ue, ce, te, se, pe, f, p) (sym (settle-zero n _ _ d))
 
-  kept-verdict : (o : Outcome) → described count active text store ≡ o → (o .number ≡ 0 → ⊥)
-      → judged ≡ record { number = o .number; line = o .line; setup = o .setup }
-  unfolding verdict
-  kept-verdict o e z = rw (e, after-kept (o .number) _ z, settle-other (o .number) 0 (o .line) z)
+  module _ (count : ℕ) (active : List Bool) where
+    abbrev begun : Beginning
+    begun = start count active soft text store arena tables screens permissions
 
-  late-verdict : (o : Outcome) → described count active text store ≡ o → o .number ≡ 0
-      → judged
-      ≡ record {
-        number = lateOf (o .setup) (dsegFiles (o .setup) text store) (passwordFiles (o .setup) store) store (length arena) (length tables) (length screens);
-        line = 0;
-        setup = o .setup;
-      }
-  unfolding verdict short
-  late-verdict o e z = rw (e, settle-zero (o .number) 0 (o .line) z, z)
+    by-early : (n : ℕ) → n ≡ early count active text store → (n ≡ 0 → ⊥) → described count active text store ≡ refusal n 0
+    unfolding described
+    by-early n e z = rw (← e) (settle-other n (read true store text count active) (refusal n 0) z)
 
-  start-refused : (v : Outcome) → judged ≡ v → (v .number ≡ 0 → ⊥)
-      → begun ≡ beginning (refusedStart (v .number) (v .line)) arena tables screens permissions
-  unfolding start
-  start-refused v e z = rw e (settle-other (v .number) _ _ z)
+    by-text : (n : ℕ) → n ≡ early count active text store → n ≡ 0 → described count active text store ≡ read true store text count active
+    unfolding described
+    by-text n e z = rw (← e) (settle-zero n (read true store text count active) (refusal n 0) z)
 
-  -- ---- start, as the code comes to it
+    -- what refuses the text, or stands before it, refuses the start
+    by-described : (o : Outcome) → described count active text store ≡ o → (o .number ≡ 0 → ⊥)
+        → beginning (refusedStart (o .number) (o .line)) arena tables screens permissions ≡ begun
+    unfolding start verdict carriedOut
+    by-described o e z =
+        rw (e, after-kept (o .number) _ z, settle-other (o .number) 0 (o .line) z) (sym (settle-other (o .number) _ _ z))
 
-  -- 401 to 403
-  pub refused-early : (n : ℕ) → n ≡ early count active text store → (n ≡ 0 → ⊥)
-      → beginning (refusedStart n 0) arena tables screens permissions ≡ begun
-  refused-early n e z = sym (start-refused _ (kept-verdict (refusal n 0) (by-early n e z) z) z)
+    -- 401 to 403
+    pub refused-early : (n : ℕ) → n ≡ early count active text store → (n ≡ 0 → ⊥)
+        → beginning (refusedStart n 0) arena tables screens permissions ≡ begun
+    refused-early n e z = by-described (refusal n 0) (by-early n e z) z
 
-  module _ (n : ℕ) (e : n ≡ early count active text store) (z : n ≡ 0) (o : Outcome) (r : o ≡ read true store text count active) where
-    text-read : described count active text store ≡ o
-    text-read = by-text n e z ∙ sym r
+    module _ (n : ℕ) (e : n ≡ early count active text store) (z : n ≡ 0) (o : Outcome) (r : o ≡ read true store text count active) where
+      -- 404 to 414
+      pub refused-text : (o .number ≡ 0 → ⊥) → beginning (refusedStart (o .number) (o .line)) arena tables screens permissions ≡ begun
+      refused-text d = by-described o (by-text n e z ∙ sym r) d
 
-    -- 404 to 414
-    pub refused-text : (o .number ≡ 0 → ⊥) → beginning (refusedStart (o .number) (o .line)) arena tables screens permissions ≡ begun
-    refused-text d = sym (start-refused _ (kept-verdict o text-read d) d)
-
-    module _ (whole : o .number ≡ 0) (files passwords : List Span)
-        (f : files ≡ dsegFiles (o .setup) text store) (p : passwords ≡ passwordFiles (o .setup) store)
-        (m : ℕ) (late : m ≡ lateOf (o .setup) files passwords store (length arena) (length tables) (length screens)) where
-      all-judged : judged ≡ record { number = m; line = 0; setup = o .setup }
-      all-judged = late-verdict o text-read whole ∙ rw (late, f, p)
-
-      -- 415 and 416
-      pub refused-late : (m ≡ 0 → ⊥) → beginning (refusedStart m 0) arena tables screens permissions ≡ begun
-      refused-late d = sym (start-refused _ all-judged d)
-
-      abbrev kept : Kept
-      kept = record { store = length store; arena = length arena; tables = length tables; screens = length screens }
-
-      start-done : m ≡ 0 → begun ≡ filled (planOf soft (o .setup) text store kept) (firstState (o .setup)) (permissionTable (o .setup)) store arena tables screens
-      unfolding start
-      start-done d = rw all-judged (settle-zero m _ _ d)
-
-      -- nothing refused
-      pub all-filled : m ≡ 0 → (plan : Plan) → plan ≡ planned soft (o .setup) files passwords kept → (state : State) → state ≡ firstState (o .setup)
-          → (memory users cells : List ℕ) (table : List (List ℕ)) → memory ≡ over (arenaImage plan store) arena → users ≡ over (tablesImage plan store) tables
-          → cells ≡ cleared plan 8 screens → table ≡ permissionTable (o .setup) → beginning (accepted plan state) memory users cells table ≡ begun
-      unfolding filled planOf
-      all-filled d plan pe state se memory users cells table me ue ce te =
-          rw (me, ue, ce, te, se, pe, f, p) (sym (start-done d))
+      -- the text is good
+      pub text-good : o .number ≡ 0 → setUp (o .setup) soft text store arena tables screens permissions ≡ begun
+      unfolding start setUp verdict
+      text-good d = rw (by-text n e z ∙ sym r, settle-zero (o .number) 0 (o .line) d, d)

@@ -6,7 +6,7 @@ use setup::Span;
 ghost use mathlib.Core.Path.{_≡_};
 ghost use Prim.Native.Nat.{_<_};
 ghost use Rattle.image.specs.Image.{spot};
-ghost use Rattle.begin.specs.Files.{passwordPath, spanOf, dsegFile, passwordFile, dsegFiles, passwordFiles};
+ghost use Rattle.begin.specs.Files.{spanOf, dsegFile, passwordFile, dsegFiles, passwordFiles};
 
 // Where the file with a path stands; the empty span where there is none.
 fn located(store: &[u8], path: &[u8]) -> Span

@@ -8,7 +8,7 @@ ghost use Prim.Native.Nat.{_+_, _*_, _<_, min};
 ghost use lib.ListN.{length, replicate};
 ghost use Rattle.octets.specs.Lists.{over, writeAt};
 ghost use Rattle.state.specs.Parts.{isActive};
-ghost use Rattle.begin.specs.Filled.{fileBytes, contentsOf, arenaImage, tableOf, tablesImage, blankScreen, cleared};
+ghost use Rattle.begin.specs.Filled.{fileBytes, contentsOf, arenaImage, tablesImage, blankScreen, cleared};
 
 // Lays a file over an area from place `at` on. The answer is the place behind it, or the area's end.
 fn put_file(store: &[u8], file: Span, area: &mut [u8], at: usize) -> usize

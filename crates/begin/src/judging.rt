@@ -3,6 +3,7 @@ use super::planning;
 use octets::parts;
 use setup::Setup;
 use setup::Span;
+use state::Kept;
 ghost use mathlib.Core.Bool.{not, _||_};
 ghost use mathlib.Core.List.{[], _∷_};
 ghost use mathlib.Core.Path.{_≡_};
@@ -42,17 +43,17 @@ fn arena_short(setup: Setup, files: [Span; 16], limit: usize) -> bool
 fn tables_short(files: [Span; 8], limit: usize) -> bool
     ensures { λ r. ⌜ r ≡ ltb limit (tableStart files 8) ⌝ }
 {
-    let mut short = false;
+    let mut narrow = false;
     let mut at = 0;
     let mut p = 0;
     while p < 8 {
         let file = files[p];
         let size = file.length;
-        short = short | (limit - at < size);
+        narrow = narrow | (limit - at < size);
         at = parts::sum(at, size, limit);
         p += 1;
     }
-    short
+    narrow
 }
 
 // An area is too short. The screens are counted in the area and not multiplied, so that nothing wraps.
@@ -98,20 +99,25 @@ fn bad_passwords(setup: Setup, files: [Span; 8], store: &[u8]) -> bool
     bad
 }
 
-// 415 and 416.
+// 415 and 416, of areas as long as those kept.
 pub(crate) fn late(
     setup: Setup,
     files: [Span; 16],
     passwords: [Span; 8],
     store: &[u8],
-    arena: usize,
-    tables: usize,
-    screens: usize,
+    kept: Kept,
 ) -> u32
     requires { ⌜ passwords ≡ passwordFiles setup (now store) ⌝ }
-    ensures { λ r. ⌜ r ≡ after 0 ((415 when noRoom setup files passwords arena tables screens) ∷ (416 when badPasswords 8 setup (now (store .entry))) ∷ []) ⌝ }
+    ensures { λ r. ⌜ r ≡ after 0 ((415 when noRoom setup files passwords (kept .arena) (kept .tables) (kept .screens)) ∷ (416 when badPasswords 8 setup (now (store .entry))) ∷ []) ⌝ }
 {
-    let room = no_room(setup, files, passwords, arena, tables, screens);
-    let number = checks::refuse(0, room, 415);
+    let narrow = no_room(
+        setup,
+        files,
+        passwords,
+        kept.arena,
+        kept.tables,
+        kept.screens,
+    );
+    let number = checks::refuse(0, narrow, 415);
     checks::refuse(number, bad_passwords(setup, passwords, store), 416)
 }

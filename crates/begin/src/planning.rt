@@ -7,8 +7,10 @@ use state::Plan;
 use state::Seat;
 use state::Segment;
 use state::State;
+ghost use mathlib.Core.Bool.{cond};
 ghost use mathlib.Core.Path.{_≡_};
 ghost use Prim.Native.Nat.{_<_, _≤_};
+ghost use Rattle.state.specs.Empty.{noSegment};
 ghost use Rattle.begin.specs.Each.{firsts};
 ghost use Rattle.begin.specs.Planned.{pathOf, sizeOf, startOf, segmentOf, tableStart, seatOf, planned, lowest, firstState};
 
@@ -41,48 +43,48 @@ pub(crate) fn size_of(setup: Setup, files: [Span; 16], row: usize) -> usize
     0
 }
 
-// The segment of a row, which begins at place `at` of the arena; zeros where none is declared.
+// A segment that is declared; zeros where none is.
+fn declared(is: bool, memory: Span, file: Span, path: Span) -> Segment
+    ensures { λ r. ⌜ r ≡ cond is (record { memory = memory; file = file; path = path }) noSegment ⌝ }
+{
+    if is {
+        return Segment { memory, file, path };
+    }
+    let none = Span {
+        place: 0,
+        length: 0,
+    };
+    Segment {
+        memory: none,
+        file: none,
+        path: none,
+    }
+}
+
+// The segment of a row, of `size` bytes from place `at` of the arena on.
 fn segment_of(setup: Setup, files: [Span; 16], row: usize, at: usize, size: usize) -> Segment
     requires { ⌜ row < 32 ⌝ }
     requires { ⌜ at ≡ startOf setup files row ⌝ }
     requires { ⌜ size ≡ sizeOf setup files row ⌝ }
     ensures { λ r. ⌜ r ≡ segmentOf setup files row ⌝ }
 {
-    let none = Span {
-        place: 0,
-        length: 0,
-    };
     let memory = Span {
         place: at,
         length: size,
     };
     let dsegs = setup.dsegs;
     if row < 16 {
-        if row < setup.dsegcount {
-            let file = files[row];
-            let dseg = dsegs[row];
-            let title = dseg.path;
-            let path = path_of(file, title.length);
-            return Segment { memory, file, path };
-        }
-        return Segment {
-            memory: none,
-            file: none,
-            path: none,
-        };
+        let file = files[row];
+        let dseg = dsegs[row];
+        let title = dseg.path;
+        let path = path_of(file, title.length);
+        return declared(row < setup.dsegcount, memory, file, path);
     }
-    if row - 16 < setup.msegcount {
-        return Segment {
-            memory,
-            file: none,
-            path: none,
-        };
-    }
-    Segment {
-        memory: none,
-        file: none,
-        path: none,
-    }
+    let none = Span {
+        place: 0,
+        length: 0,
+    };
+    declared(row - 16 < setup.msegcount, memory, none, none)
 }
 
 // All segments, one behind the other. The arena, of `limit` bytes, has room for them.

@@ -1,6 +1,5 @@
 -- `begin::files::located` meets its contract: each answer of the lookup is the span of that answer. Assumes nothing.
-use mathlib.Core.Path.{_≡_, refl, sym, ap, _∙_}
-use Rattle.image.specs.declared.Found.the-variants.{At, Nothing}
+use mathlib.Core.Path.{sym, ap, _∙_}
 use Rattle.begin.specs.Files.{spanOf}
 use borrow.Author.Needs.{needs}
 use Rattle.begin.proofs.files.located.Statement.{statement}

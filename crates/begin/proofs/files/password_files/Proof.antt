@@ -1,5 +1,5 @@
 -- `begin::files::password_files` meets its contract. The loop's invariant: the files of the first p partitions are found. The measure is how many are left. Assumes nothing.
-use mathlib.Core.Path.{_≡_, refl, _∙_}
+use mathlib.Core.Path.{_≡_, refl}
 use Prim.Native.Nat.{_≤_, _-_}
 use lib.ListN.{length, take, length-set}
 use Rattle.begin.specs.Each.{firsts}

@@ -1,6 +1,6 @@
 -- `begin::judging::bad_passwords` meets its contract. The loop's invariant: whether a file of the first p partitions is bad. The measure is how many are left.
 -- Assumes nothing.
-use mathlib.Core.Path.{_≡_, refl, _∙_}
+use mathlib.Core.Path.{_≡_, refl}
 use Prim.Native.Nat.{_≤_, _-_}
 use Rattle.begin.specs.Start.{badPasswords}
 use Rattle.begin.specs.JudgeLaws.{bad-step}

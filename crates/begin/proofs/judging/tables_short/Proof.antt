@@ -15,11 +15,11 @@ use Rattle.begin.proofs.judging.tables_short.Statement.{statement}
 use Rattle.begin.proofs.judging.tables_short.Tie as tie
 
 abbrev Inv-loop : tie.InvT-loop
-Inv-loop limit files short₀ at₀ p₀ short at p =
-    (short ≡ ltb limit (tableStart files p)) × ((at ≡ min (tableStart files p) limit) × (p ≤ 8))
+Inv-loop limit files narrow₀ at₀ p₀ narrow at p =
+    (narrow ≡ ltb limit (tableStart files p)) × ((at ≡ min (tableStart files p) limit) × (p ≤ 8))
 
 abbrev μ-loop : tie.MeasureT-loop
-μ-loop limit files short₀ at₀ p₀ short at p = 8 - p
+μ-loop limit files narrow₀ at₀ p₀ narrow at p = 8 - p
 
 loop-holds : tie.Need-loop-holds Inv-loop μ-loop
 unfolding tableStart total
@@ -31,8 +31,8 @@ mul-file c = search needs
 array-copy-out-file : tie.Need-array-copy-out-file Inv-loop μ-loop
 array-copy-out-file c = omega arith
 
-sub-short : tie.Need-sub-short Inv-loop μ-loop
-sub-short c = omega arith
+sub-narrow : tie.Need-sub-narrow Inv-loop μ-loop
+sub-narrow c = omega arith
 
 sum-requires : tie.Need-sum-requires Inv-loop μ-loop
 sum-requires c κs = search needs
@@ -47,8 +47,8 @@ loop-again : tie.Need-loop-again Inv-loop μ-loop
 unfolding tableStart
 loop-again c =
     let f : ℕ → ℕ = λ q. getD (c .before .before .before .before .args .t1) q noSpan .length in (
-      short-step f (c .before .before .before .loop .p) (c .before .before .before .before .args .limit) (c .before .before .before .loop .at) (f (c .before .before .before .loop .p)) (c .before .before .before .loop .short) (c .before .before .before .loop .inv .0) (c .before .before .before .loop .inv .1 .0) refl,
-      (c .sum .ensures ∙ place-step f (c .before .before .before .loop .p) (c .before .before .before .before .args .limit) (c .before .before .before .loop .at) (f (c .before .before .before .loop .p)) (c .before .before .before .loop .short) (c .before .before .before .loop .inv .0) (c .before .before .before .loop .inv .1 .0) refl, omega arith),
+      short-step f (c .before .before .before .loop .p) (c .before .before .before .before .args .limit) (c .before .before .before .loop .at) (f (c .before .before .before .loop .p)) (c .before .before .before .loop .narrow) (c .before .before .before .loop .inv .0) (c .before .before .before .loop .inv .1 .0) refl,
+      (c .sum .ensures ∙ place-step f (c .before .before .before .loop .p) (c .before .before .before .before .args .limit) (c .before .before .before .loop .at) (f (c .before .before .before .loop .p)) (c .before .before .before .loop .narrow) (c .before .before .before .loop .inv .0) (c .before .before .before .loop .inv .1 .0) refl, omega arith),
     )
 
 returns : tie.Need-returns Inv-loop μ-loop
@@ -63,7 +63,7 @@ tables-short-spec =
     loop-holds
     mul-file
     array-copy-out-file
-    sub-short
+    sub-narrow
     sum-requires
     add-p
     loop-less

@@ -3,7 +3,6 @@
 use mathlib.Core.Path.{_≡_, refl, _∙_}
 use Prim.Native.Nat.{ℕ, _≤_, _-_}
 use lib.ListN.{length, take, getD, length-set}
-use Rattle.setup.specs.declared.Span.{Span}
 use Rattle.setup.specs.Setup.{noSpan}
 use Rattle.begin.specs.Each.{firsts, total}
 use Rattle.begin.specs.EachLaws.{firsts-step, firsts-end, sum-step}

@@ -1,8 +1,8 @@
 -- `octets::parts::fill` meets its contract. The loop's invariant: the bytes from `start` up to i are written, the others as they were.
 -- The measure is what is left of them. Assumes nothing.
 use mathlib.Core.List.{List, [], _∷_}
-use mathlib.Core.Path.{_≡_, refl, sym, ap, _∙_}
-use Prim.Native.Nat.{ℕ, zero, suc, _+_, _-_, _≤_, _<_, min}
+use mathlib.Core.Path.{_≡_, refl, ap, _∙_}
+use Prim.Native.Nat.{ℕ, zero, suc, _+_, _-_, _≤_, min}
 use native.Mathlib.Nat.{sub-self, zero-min, min-zero, suc-min-suc}
 use native.Mathlib.Omega.{arith}
 use lib.ListN.{length, take, set, replicate, length-set, length-replicate, replicate-append-replicate}
