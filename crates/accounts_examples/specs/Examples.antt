@@ -8,6 +8,7 @@ use lib.ListN.{take, replicate}
 use Rattle.bytes.specs.Bytes.{indexOf, indexAfter}
 use Rattle.checks.specs.Checks.{refused, after}
 use Rattle.checks.specs.Settle.{settle}
+use Rattle.checks.specs.Told.{told}
 use Rattle.sha256.specs.Words.{bytesOf}
 use Rattle.sha256.specs.Padding.{zeros, lengthField, padded, blocks}
 use Rattle.sha256.specs.Padding as padding
@@ -17,7 +18,7 @@ use Rattle.passwords_examples.specs.Examples.{entry, account, two, opened}
 use Rattle.accounts.specs.Strings.{ending, isString, stringOf}
 use Rattle.accounts.specs.Users.{isUser, placeOf, placed, readable, userName}
 use Rattle.accounts.specs.Login.{attempt, user, tried, loginChecks, login}
-use Rattle.accounts.specs.Who.{told, whoChecks, who}
+use Rattle.accounts.specs.Who.{whoChecks, who}
 use Rattle.accounts.specs.SetPassword.{changed, fileImage, onStore, inMemory, written, setChecks, setPassword}
 
 -- ---- what is handed in

@@ -27,7 +27,7 @@ abbrev aap : List Bool
 aap = true ∷ true ∷ false ∷ false ∷ false ∷ false ∷ false ∷ false ∷ []
 
 -- opens every definition that reading rests on
-unfoldable opened : ℕ
+unfoldable pub opened : ℕ
 unfolding part sameBytes gapFrom tokenPlace lineFeeds lineOf run wordAt decimalFrom numberFrom numberAt sized withUnit sizeAt pathOf quotedPath barePath pathAt headAt permissionAt packed permissionsFrom permissionsAt tailAt codeAt dsegAt msegAt statementAt kindAt statementOf refused after begun isActive bytesOf hasCode among pathsOf pathTaken permissionOf permissionRow withCode withDseg withMseg reserved absent someWrites codeChecks dsegChecks msegChecks codeMissing someActive limits settled judged judgedAt ended readFrom read
 opened = 0
 
@@ -35,8 +35,8 @@ opened = 0
 unfoldable pub answered : Point → Point
 answered p = point (read false [] (p .text) 3 aap .number) (read false [] (p .text) 3 aap .line) (p .text)
 
--- the starred points of document 01 that are about the text
-pub starred : List Point
+-- the starred points of document 01 that are about the text; `starred` puts them beside those about calls, and proves all as one fact
+unfoldable pub starred : List Point
 starred =
     -- index 16 after sixteen DSEGs: 405
     point 405 18 (67 ∷ 79 ∷ 68 ∷ 69 ∷ 91 ∷ 48 ∷ 93 ∷ 61 ∷ 47 ∷ 97 ∷ 59 ∷ 67 ∷ 79 ∷ 68 ∷ 69 ∷ 91 ∷ 49 ∷ 93 ∷ 61 ∷ 47 ∷ 98 ∷ 59 ∷ 10 ∷ 68 ∷ 83 ∷ 69 ∷ 71 ∷ 91 ∷ 48 ∷ 93 ∷ 61 ∷ 123 ∷ 47 ∷ 100 ∷ 97 ∷ 44 ∷ 48 ∷ 44 ∷ 82 ∷ 87 ∷ 44 ∷ 82 ∷ 79 ∷ 44 ∷ 78 ∷ 65 ∷ 125 ∷ 59 ∷ 10 ∷ 68 ∷ 83 ∷ 69 ∷ 71 ∷ 91 ∷ 49 ∷ 93 ∷ 61 ∷ 123 ∷ 47 ∷ 100 ∷ 98 ∷ 44 ∷ 48 ∷ 44 ∷ 82 ∷ 87 ∷ 44 ∷ 82 ∷ 79 ∷ 44 ∷ 78 ∷ 65 ∷ 125 ∷ 59 ∷ 10 ∷ 68 ∷ 83 ∷ 69 ∷ 71 ∷ 91 ∷ 50 ∷ 93 ∷ 61 ∷ 123 ∷ 47 ∷ 100 ∷ 99 ∷ 44 ∷ 48 ∷ 44 ∷ 82 ∷ 87 ∷ 44 ∷ 82 ∷ 79 ∷ 44 ∷ 78 ∷ 65 ∷ 125 ∷ 59 ∷ 10 ∷ 68 ∷ 83 ∷ 69 ∷ 71 ∷ 91 ∷ 51 ∷ 93 ∷ 61 ∷ 123 ∷ 47 ∷ 100 ∷ 100 ∷ 44 ∷ 48 ∷ 44 ∷ 82 ∷ 87 ∷ 44 ∷ 82 ∷ 79 ∷ 44 ∷ 78 ∷ 65 ∷ 125 ∷ 59 ∷ 10 ∷ 68 ∷ 83 ∷ 69 ∷ 71 ∷ 91 ∷ 52 ∷ 93 ∷ 61 ∷ 123 ∷ 47 ∷ 100 ∷ 101 ∷ 44 ∷ 48 ∷ 44 ∷ 82 ∷ 87 ∷ 44 ∷ 82 ∷ 79 ∷ 44 ∷ 78 ∷ 65 ∷ 125 ∷ 59 ∷ 10 ∷ 68 ∷ 83 ∷ 69 ∷ 71 ∷ 91 ∷ 53 ∷ 93 ∷ 61 ∷ 123 ∷ 47 ∷ 100 ∷ 102 ∷ 44 ∷ 48 ∷ 44 ∷ 82 ∷ 87 ∷ 44 ∷ 82 ∷ 79 ∷ 44 ∷ 78 ∷ 65 ∷ 125 ∷ 59 ∷ 10 ∷ 68 ∷ 83 ∷ 69 ∷ 71 ∷ 91 ∷ 54 ∷ 93 ∷ 61 ∷ 123 ∷ 47 ∷ 100 ∷ 103 ∷ 44 ∷ 48 ∷ 44 ∷ 82 ∷ 87 ∷ 44 ∷ 82 ∷ 79 ∷ 44 ∷ 78 ∷ 65 ∷ 125 ∷ 59 ∷ 10 ∷ 68 ∷ 83 ∷ 69 ∷ 71 ∷ 91 ∷ 55 ∷ 93 ∷ 61 ∷ 123 ∷ 47 ∷ 100 ∷ 104 ∷ 44 ∷ 48 ∷ 44 ∷ 82 ∷ 87 ∷ 44 ∷ 82 ∷ 79 ∷ 44 ∷ 78 ∷ 65 ∷ 125 ∷ 59 ∷ 10 ∷ 68 ∷ 83 ∷ 69 ∷ 71 ∷ 91 ∷ 56 ∷ 93 ∷ 61 ∷ 123 ∷ 47 ∷ 100 ∷ 105 ∷ 44 ∷ 48 ∷ 44 ∷ 82 ∷ 87 ∷ 44 ∷ 82 ∷ 79 ∷ 44 ∷ 78 ∷ 65 ∷ 125 ∷ 59 ∷ 10 ∷ 68 ∷ 83 ∷ 69 ∷ 71 ∷ 91 ∷ 57 ∷ 93 ∷ 61 ∷ 123 ∷ 47 ∷ 100 ∷ 106 ∷ 44 ∷ 48 ∷ 44 ∷ 82 ∷ 87 ∷ 44 ∷ 82 ∷ 79 ∷ 44 ∷ 78 ∷ 65 ∷ 125 ∷ 59 ∷ 10 ∷ 68 ∷ 83 ∷ 69 ∷ 71 ∷ 91 ∷ 49 ∷ 48 ∷ 93 ∷ 61 ∷ 123 ∷ 47 ∷ 100 ∷ 107 ∷ 44 ∷ 48 ∷ 44 ∷ 82 ∷ 87 ∷ 44 ∷ 82 ∷ 79 ∷ 44 ∷ 78 ∷ 65 ∷ 125 ∷ 59 ∷ 10 ∷ 68 ∷ 83 ∷ 69 ∷ 71 ∷ 91 ∷ 49 ∷ 49 ∷ 93 ∷ 61 ∷ 123 ∷ 47 ∷ 100 ∷ 108 ∷ 44 ∷ 48 ∷ 44 ∷ 82 ∷ 87 ∷ 44 ∷ 82 ∷ 79 ∷ 44 ∷ 78 ∷ 65 ∷ 125 ∷ 59 ∷ 10 ∷ 68 ∷ 83 ∷ 69 ∷ 71 ∷ 91 ∷ 49 ∷ 50 ∷ 93 ∷ 61 ∷ 123 ∷ 47 ∷ 100 ∷ 109 ∷ 44 ∷ 48 ∷ 44 ∷ 82 ∷ 87 ∷ 44 ∷ 82 ∷ 79 ∷ 44 ∷ 78 ∷ 65 ∷ 125 ∷ 59 ∷ 10 ∷ 68 ∷ 83 ∷ 69 ∷ 71 ∷ 91 ∷ 49 ∷ 51 ∷ 93 ∷ 61 ∷ 123 ∷ 47 ∷ 100 ∷ 110 ∷ 44 ∷ 48 ∷ 44 ∷ 82 ∷ 87 ∷ 44 ∷ 82 ∷ 79 ∷ 44 ∷ 78 ∷ 65 ∷ 125 ∷ 59 ∷ 10 ∷ 68 ∷ 83 ∷ 69 ∷ 71 ∷ 91 ∷ 49 ∷ 52 ∷ 93 ∷ 61 ∷ 123 ∷ 47 ∷ 100 ∷ 111 ∷ 44 ∷ 48 ∷ 44 ∷ 82 ∷ 87 ∷ 44 ∷ 82 ∷ 79 ∷ 44 ∷ 78 ∷ 65 ∷ 125 ∷ 59 ∷ 10 ∷ 68 ∷ 83 ∷ 69 ∷ 71 ∷ 91 ∷ 49 ∷ 53 ∷ 93 ∷ 61 ∷ 123 ∷ 47 ∷ 100 ∷ 112 ∷ 44 ∷ 48 ∷ 44 ∷ 82 ∷ 87 ∷ 44 ∷ 82 ∷ 79 ∷ 44 ∷ 78 ∷ 65 ∷ 125 ∷ 59 ∷ 10 ∷ 68 ∷ 83 ∷ 69 ∷ 71 ∷ 91 ∷ 49 ∷ 54 ∷ 93 ∷ 61 ∷ 123 ∷ 47 ∷ 100 ∷ 113 ∷ 44 ∷ 48 ∷ 44 ∷ 82 ∷ 87 ∷ 44 ∷ 82 ∷ 79 ∷ 44 ∷ 78 ∷ 65 ∷ 125 ∷ 59 ∷ []) ∷
@@ -50,10 +50,6 @@ starred =
     point 0 0 (67 ∷ 79 ∷ 68 ∷ 69 ∷ 91 ∷ 48 ∷ 93 ∷ 61 ∷ 47 ∷ 97 ∷ 59 ∷ 67 ∷ 79 ∷ 68 ∷ 69 ∷ 91 ∷ 49 ∷ 93 ∷ 61 ∷ 47 ∷ 98 ∷ 59 ∷ 10 ∷ 77 ∷ 83 ∷ 69 ∷ 71 ∷ 91 ∷ 48 ∷ 93 ∷ 61 ∷ 123 ∷ 49 ∷ 54 ∷ 77 ∷ 66 ∷ 44 ∷ 50 ∷ 44 ∷ 78 ∷ 65 ∷ 44 ∷ 82 ∷ 87 ∷ 44 ∷ 78 ∷ 65 ∷ 125 ∷ 59 ∷ []) ∷
     -- 16MB plus one byte: 412
     point 412 2 (67 ∷ 79 ∷ 68 ∷ 69 ∷ 91 ∷ 48 ∷ 93 ∷ 61 ∷ 47 ∷ 97 ∷ 59 ∷ 67 ∷ 79 ∷ 68 ∷ 69 ∷ 91 ∷ 49 ∷ 93 ∷ 61 ∷ 47 ∷ 98 ∷ 59 ∷ 10 ∷ 77 ∷ 83 ∷ 69 ∷ 71 ∷ 91 ∷ 48 ∷ 93 ∷ 61 ∷ 123 ∷ 49 ∷ 54 ∷ 55 ∷ 55 ∷ 55 ∷ 50 ∷ 49 ∷ 55 ∷ 44 ∷ 50 ∷ 44 ∷ 78 ∷ 65 ∷ 44 ∷ 82 ∷ 87 ∷ 44 ∷ 78 ∷ 65 ∷ 125 ∷ 59 ∷ []) ∷ []
-
-pub starred-hold : map answered starred ≡ starred
-unfolding starred answered opened
-starred-hold = refl
 
 -- others
 pub others : List Point
