@@ -1,10 +1,13 @@
-# run: the listing of a sample set-up    test: the gate    bench: figures beside C, OpenSSL and memmove
+# run: a working day with the incident, and the listing of a sample set-up    test: the gate    bench: figures beside C, OpenSSL and memmove
 # fuzz-listing: the listing beside a second reader, on 20,000 made-up texts    fmt: lay out every file
 .PHONY: run test bench fuzz-listing fmt rt-is-there
 
 run: rt-is-there
-	@echo 'make run: proving and building the listing program (minutes after a change, a second else) ..'
-	@rt check listing
+	@echo 'make run: proving and building the programs (minutes after a change, a second else) ..'
+	@rt check workday listing
+	@echo 'make run: a working day:'
+	@target/bin/workday
+	@echo
 	@echo 'make run: the listing of examples/sample.txt:'
 	@target/bin/listing <examples/sample.txt
 
