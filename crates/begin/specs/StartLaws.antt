@@ -128,7 +128,10 @@ module _ (soft : Bool) (text store arena tables screens : List ℕ) (permissions
       pub refused-text : (o .number ≡ 0 → ⊥) → beginning (refusedStart (o .number) (o .line)) arena tables screens permissions ≡ begun
       refused-text d = by-described o (by-text n e z ∙ sym r) d
 
-      -- the text is good
-      pub text-good : o .number ≡ 0 → setUp (o .setup) soft text store arena tables screens permissions ≡ begun
+      good-text : o .number ≡ 0 → setUp (o .setup) soft text store arena tables screens permissions ≡ begun
       unfolding start setUp verdict
-      text-good d = rw (by-text n e z ∙ sym r, settle-zero (o .number) 0 (o .line) d, d)
+      good-text d = rw (by-text n e z ∙ sym r, settle-zero (o .number) 0 (o .line) d, d)
+
+      -- the text is good
+      pub text-good : (b : Beginning) → o .number ≡ 0 → b ≡ setUp (o .setup) soft text store arena tables screens permissions → b ≡ begun
+      text-good b d same = same ∙ good-text d

@@ -62,7 +62,7 @@ fn fill_tables(plan: Plan, store: &[u8], tables: &mut [u8])
     ensures { λ _. ⌜ now (tables .exit) ≡ over (tablesImage plan (now (store .entry))) (now (tables .entry)) ⌝ }
 {
     let mut at = 0;
-    let mut p = 0;
+    let mut p: usize = 0;
     while p < 8 {
         let seat = plan.seat(p);
         let file = seat.file;

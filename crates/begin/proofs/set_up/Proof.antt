@@ -19,14 +19,18 @@ refused-requires c κs = search needs
 returns : tie.Need-returns
 returns c =
     let args = c .before .before .before .before .before .before .before .before .before .before .args in
+    let files = c .before .before .before .before .dseg-files in
+    let passwords = c .before .before .before .password-files in
+    let late = c .before .before .late in
     rw (c .refused .ensures)
     (refused-late (args .soft) (args .text .now) (args .store .now) (args .arena .now) (args .tables .now) (args .screens .now) (args .permissions .now)
-    (args .setup) (c .before .before .before .before .dseg-files .result) (c .before .before .before .password-files .result) (c .before .before .before .before .dseg-files .ensures) (c .before .before .before .password-files .ensures) (c .before .before .late .result) (c .before .before .late .ensures) (c .before .if1 .taken))
+    (args .setup) (files .result) (passwords .result) (files .ensures) (passwords .ensures) (late .result) (late .ensures) (c .before .if1 .taken))
 
 plan-of-requires : tie.Need-plan-of-requires
 plan-of-requires c κs =
     let store = c .before .before .before .before .before .before .before .before .before .args .store .now in
-    (arena-room _ _ _ store _ _ _ (c .before .late .result) (c .before .late .ensures) (c .if1 .left), tables-room _ _ _ store _ _ _ (c .before .late .result) (c .before .late .ensures) (c .if1 .left))
+    let late = c .before .late in
+    (arena-room _ _ _ store _ _ _ (late .result) (late .ensures) (c .if1 .left), tables-room _ _ _ store _ _ _ (late .result) (late .ensures) (c .if1 .left))
 
 first-state-requires : tie.Need-first-state-requires
 first-state-requires c κs = search needs
@@ -52,11 +56,19 @@ same-length-3 c = search needs
 returns-2 : tie.Need-returns-2
 returns-2 c =
     let args = c .before .before .before .before .before .before .before .before .before .before .before .before .before .before .before .before .before .before .before .before .before .before .before .args in
+    let files = c .before .before .before .before .before .before .before .before .before .before .before .before .before .before .before .before .before .dseg-files in
+    let passwords = c .before .before .before .before .before .before .before .before .before .before .before .before .before .before .before .before .password-files in
+    let late = c .before .before .before .before .before .before .before .before .before .before .before .before .before .before .before .late in
+    let plan = c .before .before .before .before .before .before .before .before .before .before .before .before .before .plan-of in
+    let state = c .before .before .before .before .before .before .before .before .before .before .before .before .first-state in
+    let memory = c .before .before .before .before .before .before .before .before .before .fill-memory in
+    let cells = c .before .before .before .clear-screens in
+    let table = c .permission-table in
     all-filled (args .soft) (args .text .now) (args .store .now) (args .arena .now) (args .tables .now) (args .screens .now) (args .permissions .now)
-    (args .setup) (c .before .before .before .before .before .before .before .before .before .before .before .before .before .before .before .before .before .dseg-files .result) (c .before .before .before .before .before .before .before .before .before .before .before .before .before .before .before .before .password-files .result) (c .before .before .before .before .before .before .before .before .before .before .before .before .before .before .before .before .before .dseg-files .ensures) (c .before .before .before .before .before .before .before .before .before .before .before .before .before .before .before .before .password-files .ensures) (c .before .before .before .before .before .before .before .before .before .before .before .before .before .before .before .late .result) (c .before .before .before .before .before .before .before .before .before .before .before .before .before .before .before .late .ensures) (c .before .before .before .before .before .before .before .before .before .before .before .before .before .before .if1 .left)
-    (c .before .before .before .before .before .before .before .before .before .before .before .before .before .plan-of .result) (c .before .before .before .before .before .before .before .before .before .before .before .before .before .plan-of .ensures) (c .before .before .before .before .before .before .before .before .before .before .before .before .first-state .result) (c .before .before .before .before .before .before .before .before .before .before .before .before .first-state .ensures)
-    (c .before .before .before .before .before .before .before .before .before .fill-memory .last .1 .1 .0) (c .before .before .before .before .before .before .before .before .before .fill-memory .last .1 .1 .1 .0) (c .before .before .before .clear-screens .last .1 .0) (c .permission-table .result)
-    (c .before .before .before .before .before .before .before .before .before .fill-memory .ensures .0) (c .before .before .before .before .before .before .before .before .before .fill-memory .ensures .1) (c .before .before .before .clear-screens .ensures) (c .permission-table .ensures)
+    (args .setup) (files .result) (passwords .result) (files .ensures) (passwords .ensures) (late .result) (late .ensures) (c .before .before .before .before .before .before .before .before .before .before .before .before .before .before .if1 .left)
+    (plan .result) (plan .ensures) (state .result) (state .ensures)
+    (memory .last .1 .1 .0) (memory .last .1 .1 .1 .0) (cells .last .1 .0) (table .result)
+    (memory .ensures .0) (memory .ensures .1) (cells .ensures) (table .ensures)
 
 pub set-up-spec : {M : Type 1} → statement M
 set-up-spec =

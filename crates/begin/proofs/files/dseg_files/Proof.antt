@@ -1,11 +1,11 @@
 -- `begin::files::dseg_files` meets its contract. The loop's invariant: the first i files are found. The measure is how many are left. Assumes nothing.
 use mathlib.Core.Path.{_≡_, refl}
 use Prim.Native.Nat.{_≤_, _-_}
+use native.Mathlib.Omega.{arith}
 use lib.ListN.{length, take, length-set}
 use Rattle.begin.specs.Each.{firsts}
 use Rattle.begin.specs.EachLaws.{firsts-step, firsts-end}
 use Rattle.begin.specs.Files.{dsegFile, dsegFiles}
-use native.Mathlib.Omega.{arith}
 use borrow.Author.Needs.{needs}
 use Rattle.begin.proofs.files.dseg_files.Statement.{statement}
 use Rattle.begin.proofs.files.dseg_files.Tie as tie
@@ -37,11 +37,21 @@ loop-less : tie.Need-loop-less Inv-loop μ-loop
 loop-less c = omega arith
 
 loop-again : tie.Need-loop-again Inv-loop μ-loop
-loop-again c = (firsts-step (dsegFile (c .before .before .before .before .before .args .setup) (c .before .before .before .before .before .args .text .now) (c .before .before .before .before .before .args .store .now)) (c .before .before .loop .files) (c .before .before .loop .i) (c .dseg-file .result) (omega arith) (c .before .before .loop .inv .0) (c .dseg-file .ensures), (simp length-set (c .before .before .loop .inv .1 .0), omega arith))
+loop-again c =
+    let args = c .before .before .before .before .before .args in
+    let loop = c .before .before .loop in
+    let found = c .dseg-file in
+    let file = dsegFile (args .setup) (args .text .now) (args .store .now) in (
+      firsts-step file (loop .files) (loop .i) (found .result) (omega arith) (loop .inv .0) (found .ensures),
+      (simp length-set (loop .inv .1 .0), omega arith),
+    )
 
 returns : tie.Need-returns Inv-loop μ-loop
 unfolding dsegFiles
-returns c = firsts-end (dsegFile (c .before .before .before .before .args .setup) (c .before .before .before .before .args .text .now) (c .before .before .before .before .args .store .now)) (c .before .loop .files) (c .before .loop .i) 16 (c .before .loop .inv .1 .0) (omega arith) (c .before .loop .inv .0)
+returns c =
+    let args = c .before .before .before .before .args in
+    let loop = c .before .loop in
+    firsts-end (dsegFile (args .setup) (args .text .now) (args .store .now)) (loop .files) (loop .i) 16 (loop .inv .1 .0) (omega arith) (loop .inv .0)
 
 pub dseg-files-spec : {M : Type 1} → statement M
 dseg-files-spec =

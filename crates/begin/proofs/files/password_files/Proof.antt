@@ -1,11 +1,12 @@
--- `begin::files::password_files` meets its contract. The loop's invariant: the files of the first p partitions are found. The measure is how many are left. Assumes nothing.
+-- `begin::files::password_files` meets its contract. The loop's invariant: the files of the first p partitions are found. The measure is how many are left.
+-- Assumes nothing.
 use mathlib.Core.Path.{_≡_, refl}
 use Prim.Native.Nat.{_≤_, _-_}
+use native.Mathlib.Omega.{arith}
 use lib.ListN.{length, take, length-set}
 use Rattle.begin.specs.Each.{firsts}
 use Rattle.begin.specs.EachLaws.{firsts-step, firsts-end}
 use Rattle.begin.specs.Files.{passwordFile, passwordFiles}
-use native.Mathlib.Omega.{arith}
 use borrow.Author.Needs.{needs}
 use Rattle.begin.proofs.files.password_files.Statement.{statement}
 use Rattle.begin.proofs.files.password_files.Tie as tie
@@ -37,11 +38,20 @@ loop-less : tie.Need-loop-less Inv-loop μ-loop
 loop-less c = omega arith
 
 loop-again : tie.Need-loop-again Inv-loop μ-loop
-loop-again c = (firsts-step (passwordFile (c .before .before .before .before .args .setup) (c .before .before .before .before .args .store .now)) (c .before .before .loop .files) (c .before .before .loop .p) (c .password-file .result) (omega arith) (c .before .before .loop .inv .0) (c .password-file .ensures), (simp length-set (c .before .before .loop .inv .1 .0), omega arith))
+loop-again c =
+    let args = c .before .before .before .before .args in
+    let loop = c .before .before .loop in
+    let found = c .password-file in (
+      firsts-step (passwordFile (args .setup) (args .store .now)) (loop .files) (loop .p) (found .result) (omega arith) (loop .inv .0) (found .ensures),
+      (simp length-set (loop .inv .1 .0), omega arith),
+    )
 
 returns : tie.Need-returns Inv-loop μ-loop
 unfolding passwordFiles
-returns c = firsts-end (passwordFile (c .before .before .before .args .setup) (c .before .before .before .args .store .now)) (c .before .loop .files) (c .before .loop .p) 8 (c .before .loop .inv .1 .0) (omega arith) (c .before .loop .inv .0)
+returns c =
+    let args = c .before .before .before .args in
+    let loop = c .before .loop in
+    firsts-end (passwordFile (args .setup) (args .store .now)) (loop .files) (loop .p) 8 (loop .inv .1 .0) (omega arith) (loop .inv .0)
 
 pub password-files-spec : {M : Type 1} → statement M
 password-files-spec =

@@ -21,10 +21,15 @@ same-length c = search needs
 
 returns : tie.Need-returns
 unfolding blankScreen
-returns c = when-active (isActive (c .before .before .before .before .before .before .before .args .plan) (c .before .before .before .before .before .before .before .args .p)) (c .before .before .before .before .before .before .before .args .p) (c .before .before .before .before .before .before .before .args .screens .now) (c .before .before .fill .last .0) (sym (c .before .before .before .before .before .is-active .ensures) ∙ c .before .before .before .before .if1 .taken) (c .before .before .fill .ensures)
+returns c =
+    let args = c .before .before .before .before .before .before .before .args in
+    let fill = c .before .before .fill in
+    when-active (isActive (args .plan) (args .p)) (args .p) (args .screens .now) (fill .last .0) (sym (c .before .before .before .before .before .is-active .ensures) ∙ c .before .before .before .before .if1 .taken) (fill .ensures)
 
 returns-2 : tie.Need-returns-2
-returns-2 c = when-passive (isActive (c .before .before .before .args .plan) (c .before .before .before .args .p)) (c .before .before .before .args .p) (c .before .before .before .args .screens .now) (sym (c .before .is-active .ensures) ∙ c .if1 .left)
+returns-2 c =
+    let args = c .before .before .before .args in
+    when-passive (isActive (args .plan) (args .p)) (args .p) (args .screens .now) (sym (c .before .is-active .ensures) ∙ c .if1 .left)
 
 pub clear-screen-spec : {M : Type 1} → statement M
 clear-screen-spec =

@@ -2,10 +2,10 @@
 -- is how many are left. Assumes nothing.
 use mathlib.Core.Path.{_≡_, refl, ap, _∙_}
 use Prim.Native.Nat.{_≤_, _-_}
+use native.Mathlib.Omega.{arith}
 use lib.ListN.{length}
 use Rattle.begin.specs.Filled.{cleared}
 use Rattle.begin.specs.FilledLaws.{length-cleared, cleared-more}
-use native.Mathlib.Omega.{arith}
 use borrow.Author.Needs.{needs}
 use Rattle.begin.proofs.filling.clear_screens.Statement.{statement}
 use Rattle.begin.proofs.filling.clear_screens.Tie as tie
@@ -31,13 +31,22 @@ loop-less : tie.Need-loop-less Inv-loop μ-loop
 loop-less c = omega arith
 
 loop-again : tie.Need-loop-again Inv-loop μ-loop
-loop-again c = (cleared-more (c .before .before .before .before .before .before .before .args .plan) (c .before .before .before .before .before .loop .p) (c .before .before .before .before .before .before .before .args .screens .now) (c .before .before .before .before .before .loop .screens) (c .before .before .clear-screen .last .1 .1 .0) (c .before .before .before .before .before .loop .inv .0) (c .before .before .clear-screen .ensures), omega arith)
+loop-again c =
+    let args = c .before .before .before .before .before .before .before .args in
+    let loop = c .before .before .before .before .before .loop in
+    let clear = c .before .before .clear-screen in
+    (cleared-more (args .plan) (loop .p) (args .screens .now) (loop .screens) (clear .last .1 .1 .0) (loop .inv .0) (clear .ensures), omega arith)
 
 same-length : tie.Need-same-length Inv-loop μ-loop
-same-length c = ap length (c .before .loop .inv .0) ∙ length-cleared (c .before .before .before .args .plan) (c .before .loop .p) (c .before .before .before .args .screens .now)
+same-length c =
+    let args = c .before .before .before .args in
+    let loop = c .before .loop in
+    ap length (loop .inv .0) ∙ length-cleared (args .plan) (loop .p) (args .screens .now)
 
 returns : tie.Need-returns Inv-loop μ-loop
-returns c = let all : c .before .loop .p ≡ 8 = omega arith in rw all at (c .before .loop .inv .0)
+returns c =
+    let all : c .before .loop .p ≡ 8 = omega arith in
+    rw all at (c .before .loop .inv .0)
 
 pub clear-screens-spec : {M : Type 1} → statement M
 clear-screens-spec =

@@ -2,13 +2,13 @@
 -- The measure is how many rows are left. Assumes nothing.
 use mathlib.Core.Path.{_≡_, refl, ap, _∙_}
 use Prim.Native.Nat.{_≤_, _-_, min}
+use native.Mathlib.Omega.{arith}
 use lib.ListN.{length}
 use Rattle.octets.specs.Lists.{over}
 use Rattle.octets.specs.WriteLaws.{length-over}
 use Rattle.begin.specs.Each.{joined}
 use Rattle.begin.specs.Filled.{contentsOf, arenaImage}
 use Rattle.begin.specs.FilledLaws.{laid-more, place-more}
-use native.Mathlib.Omega.{arith}
 use borrow.Author.Needs.{needs}
 use Rattle.begin.proofs.filling.fill_arena.Statement.{statement}
 use Rattle.begin.proofs.filling.fill_arena.Tie as tie
@@ -35,19 +35,27 @@ loop-less c = omega arith
 
 loop-again : tie.Need-loop-again Inv-loop μ-loop
 loop-again c =
-    let f = contentsOf (c .before .before .before .before .before .before .before .before .args .plan) (c .before .before .before .before .before .before .before .before .args .store .now) in
-    let laid = c .before .before .before .before .before .loop .inv .0 in
-    let place = c .before .before .before .before .before .loop .inv .1 .0 in (
-      laid-more f (c .before .before .before .before .before .loop .row) (c .before .before .before .before .before .loop .at) (c .before .before .before .before .before .before .before .before .args .arena .now) (c .before .before .before .before .before .loop .arena) laid place (c .before .before .put-segment .last .1 .1 .1 .0) (c .before .before .put-segment .ensures .0),
-      (place-more f (c .before .before .before .before .before .loop .row) (c .before .before .before .before .before .loop .at) (c .before .before .before .before .before .before .before .before .args .arena .now) (c .before .before .before .before .before .loop .arena) laid place (c .before .before .put-segment .result) (c .before .before .put-segment .ensures .1), omega arith),
+    let args = c .before .before .before .before .before .before .before .before .args in
+    let loop = c .before .before .before .before .before .loop in
+    let put = c .before .before .put-segment in
+    let old = args .arena .now in
+    let contents = contentsOf (args .plan) (args .store .now) in
+    let place = loop .inv .1 .0 in (
+      laid-more contents (loop .row) (loop .at) old (loop .arena) (loop .inv .0) place (put .last .1 .1 .1 .0) (put .ensures .0),
+      (place-more contents (loop .row) (loop .at) old (loop .arena) (loop .inv .0) place (put .result) (put .ensures .1), omega arith),
     )
 
 same-length : tie.Need-same-length Inv-loop μ-loop
-same-length c = ap length (c .before .loop .inv .0) ∙ length-over (joined (contentsOf (c .before .before .before .before .args .plan) (c .before .before .before .before .args .store .now)) (c .before .loop .row)) (c .before .before .before .before .args .arena .now)
+same-length c =
+    let args = c .before .before .before .before .args in
+    let loop = c .before .loop in
+    ap length (loop .inv .0) ∙ length-over (joined (contentsOf (args .plan) (args .store .now)) (loop .row)) (args .arena .now)
 
 returns : tie.Need-returns Inv-loop μ-loop
 unfolding arenaImage
-returns c = let all : c .before .loop .row ≡ 32 = omega arith in rw all at (c .before .loop .inv .0)
+returns c =
+    let all : c .before .loop .row ≡ 32 = omega arith in
+    rw all at (c .before .loop .inv .0)
 
 pub fill-arena-spec : {M : Type 1} → statement M
 fill-arena-spec =

@@ -2,13 +2,13 @@
 -- The measure is how many partitions are left. Assumes nothing.
 use mathlib.Core.Path.{_≡_, refl, ap, _∙_}
 use Prim.Native.Nat.{_≤_, _-_, min}
+use native.Mathlib.Omega.{arith}
 use lib.ListN.{length}
 use Rattle.octets.specs.Lists.{over}
 use Rattle.octets.specs.WriteLaws.{length-over}
 use Rattle.begin.specs.Each.{joined}
 use Rattle.begin.specs.Filled.{tableOf, tablesImage}
 use Rattle.begin.specs.FilledLaws.{laid-more, place-more}
-use native.Mathlib.Omega.{arith}
 use borrow.Author.Needs.{needs}
 use Rattle.begin.proofs.filling.fill_tables.Statement.{statement}
 use Rattle.begin.proofs.filling.fill_tables.Tie as tie
@@ -39,19 +39,28 @@ loop-less c = omega arith
 loop-again : tie.Need-loop-again Inv-loop μ-loop
 unfolding tableOf
 loop-again c =
-    let f = tableOf (c .before .before .before .before .before .before .before .before .before .before .args .plan) (c .before .before .before .before .before .before .before .before .before .before .args .store .now) in
-    let laid = c .before .before .before .before .before .before .before .loop .inv .0 in
-    let place = c .before .before .before .before .before .before .before .loop .inv .1 .0 in (
-      laid-more f (c .before .before .before .before .before .before .before .loop .p) (c .before .before .before .before .before .before .before .loop .at) (c .before .before .before .before .before .before .before .before .before .before .args .tables .now) (c .before .before .before .before .before .before .before .loop .tables) laid place (c .before .before .put-file .last .1 .1 .0) (rw (c .before .before .before .before .before .seat .ensures) at (c .before .before .put-file .ensures .0)),
-      (place-more f (c .before .before .before .before .before .before .before .loop .p) (c .before .before .before .before .before .before .before .loop .at) (c .before .before .before .before .before .before .before .before .before .before .args .tables .now) (c .before .before .before .before .before .before .before .loop .tables) laid place (c .before .before .put-file .result) (rw (c .before .before .before .before .before .seat .ensures) at (c .before .before .put-file .ensures .1)), omega arith),
+    let args = c .before .before .before .before .before .before .before .before .before .before .args in
+    let loop = c .before .before .before .before .before .before .before .loop in
+    let seat = c .before .before .before .before .before .seat in
+    let put = c .before .before .put-file in
+    let old = args .tables .now in
+    let table = tableOf (args .plan) (args .store .now) in
+    let place = loop .inv .1 .0 in (
+      laid-more table (loop .p) (loop .at) old (loop .tables) (loop .inv .0) place (put .last .1 .1 .0) (rw (seat .ensures) at (put .ensures .0)),
+      (place-more table (loop .p) (loop .at) old (loop .tables) (loop .inv .0) place (put .result) (rw (seat .ensures) at (put .ensures .1)), omega arith),
     )
 
 same-length : tie.Need-same-length Inv-loop μ-loop
-same-length c = ap length (c .before .loop .inv .0) ∙ length-over (joined (tableOf (c .before .before .before .before .args .plan) (c .before .before .before .before .args .store .now)) (c .before .loop .p)) (c .before .before .before .before .args .tables .now)
+same-length c =
+    let args = c .before .before .before .before .args in
+    let loop = c .before .loop in
+    ap length (loop .inv .0) ∙ length-over (joined (tableOf (args .plan) (args .store .now)) (loop .p)) (args .tables .now)
 
 returns : tie.Need-returns Inv-loop μ-loop
 unfolding tablesImage
-returns c = let all : c .before .loop .p ≡ 8 = omega arith in rw all at (c .before .loop .inv .0)
+returns c =
+    let all : c .before .loop .p ≡ 8 = omega arith in
+    rw all at (c .before .loop .inv .0)
 
 pub fill-tables-spec : {M : Type 1} → statement M
 fill-tables-spec =

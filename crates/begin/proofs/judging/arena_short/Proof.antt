@@ -3,11 +3,11 @@
 use borrow.Author.Tests.{le-ltb}
 use mathlib.Core.Path.{_≡_, sym, _∙_}
 use Prim.Native.Nat.{_≤_, _-_, min}
+use native.Mathlib.Omega.{arith}
 use lib.Dec.{ltb}
 use Rattle.begin.specs.Each.{total}
-use Rattle.begin.specs.Planned.{sizeOf, startOf}
 use Rattle.begin.specs.JudgeLaws.{short-step, place-step}
-use native.Mathlib.Omega.{arith}
+use Rattle.begin.specs.Planned.{sizeOf, startOf}
 use borrow.Author.Needs.{needs}
 use Rattle.begin.proofs.judging.arena_short.Statement.{statement}
 use Rattle.begin.proofs.judging.arena_short.Tie as tie
@@ -41,13 +41,19 @@ loop-less c = omega arith
 loop-again : tie.Need-loop-again Inv-loop μ-loop
 unfolding startOf
 loop-again c =
-    let f = sizeOf (c .before .before .before .before .args .setup) (c .before .before .before .before .args .files) in (
-      short-step f (c .before .before .before .loop .row) (c .before .before .before .before .args .limit) (c .before .before .before .loop .at) (c .before .size-of .result) (c .before .before .before .loop .short) (c .before .before .before .loop .inv .0) (c .before .before .before .loop .inv .1 .0) (c .before .size-of .ensures),
-      (c .sum .ensures ∙ place-step f (c .before .before .before .loop .row) (c .before .before .before .before .args .limit) (c .before .before .before .loop .at) (c .before .size-of .result) (c .before .before .before .loop .short) (c .before .before .before .loop .inv .0) (c .before .before .before .loop .inv .1 .0) (c .before .size-of .ensures), omega arith),
+    let args = c .before .before .before .before .args in
+    let loop = c .before .before .before .loop in
+    let size = c .before .size-of in
+    let sizes = sizeOf (args .setup) (args .files) in
+    let place = loop .inv .1 .0 in (
+      short-step sizes (loop .row) (args .limit) (loop .at) (size .result) (loop .short) (loop .inv .0) place (size .ensures),
+      (c .sum .ensures ∙ place-step sizes (loop .row) (args .limit) (loop .at) (size .result) (loop .short) (loop .inv .0) place (size .ensures), omega arith),
     )
 
 returns : tie.Need-returns Inv-loop μ-loop
-returns c = let all : c .before .loop .row ≡ 32 = omega arith in rw all at (c .before .loop .inv .0)
+returns c =
+    let all : c .before .loop .row ≡ 32 = omega arith in
+    rw all at (c .before .loop .inv .0)
 
 pub arena-short-spec : {M : Type 1} → statement M
 arena-short-spec =

@@ -1,10 +1,10 @@
--- `begin::judging::bad_passwords` meets its contract. The loop's invariant: whether a file of the first p partitions is bad. The measure is how many are left.
--- Assumes nothing.
+-- `begin::judging::bad_passwords` meets its contract. The loop's invariant: whether a file of the first p partitions is bad. The measure is how many are
+-- left. Assumes nothing.
 use mathlib.Core.Path.{_≡_, refl}
 use Prim.Native.Nat.{_≤_, _-_}
-use Rattle.begin.specs.Start.{badPasswords}
-use Rattle.begin.specs.JudgeLaws.{bad-step}
 use native.Mathlib.Omega.{arith}
+use Rattle.begin.specs.JudgeLaws.{bad-step}
+use Rattle.begin.specs.Start.{badPasswords}
 use borrow.Author.Needs.{needs}
 use Rattle.begin.proofs.judging.bad_passwords.Statement.{statement}
 use Rattle.begin.proofs.judging.bad_passwords.Tie as tie
@@ -39,10 +39,18 @@ loop-less : tie.Need-loop-less Inv-loop μ-loop
 loop-less c = omega arith
 
 loop-again : tie.Need-loop-again Inv-loop μ-loop
-loop-again c = (rw (c .before .before .is-active .ensures, c .bad-file .ensures) (bad-step (c .before .before .before .before .before .before .args .setup) (c .before .before .before .before .before .before .args .store .now) (c .before .before .before .before .loop .p) (c .before .before .before .before .before .before .args .t2) (c .before .before .before .before .loop .bad) (omega arith) (c .before .before .before .before .before .before .pre) (c .before .before .before .before .loop .inv .0)), omega arith)
+loop-again c =
+    let args = c .before .before .before .before .before .before .args in
+    let loop = c .before .before .before .before .loop in (
+      rw (c .before .before .is-active .ensures, c .bad-file .ensures)
+          (bad-step (args .setup) (args .store .now) (loop .p) (args .t2) (loop .bad) (omega arith) (c .before .before .before .before .before .before .pre) (loop .inv .0)),
+      omega arith,
+    )
 
 returns : tie.Need-returns Inv-loop μ-loop
-returns c = let all : c .before .loop .p ≡ 8 = omega arith in rw all at (c .before .loop .inv .0)
+returns c =
+    let all : c .before .loop .p ≡ 8 = omega arith in
+    rw all at (c .before .loop .inv .0)
 
 pub bad-passwords-spec : {M : Type 1} → statement M
 bad-passwords-spec =

@@ -1,15 +1,15 @@
--- `begin::judging::tables_short` meets its contract. The loop's invariant: whether the files so far need more than there is, and their sum, or the limit where
--- that is less. The measure is how many files are left. Assumes nothing.
+-- `begin::judging::tables_short` meets its contract. The loop's invariant: whether the files so far need more than there is, and their sum, or the limit
+-- where that is less. The measure is how many files are left. Assumes nothing.
 use borrow.Author.Tests.{le-ltb}
 use mathlib.Core.Path.{_≡_, refl, sym, _∙_}
 use Prim.Native.Nat.{ℕ, _≤_, _-_, min}
+use native.Mathlib.Omega.{arith}
 use lib.Dec.{ltb}
 use lib.ListN.{getD}
 use Rattle.setup.specs.Setup.{noSpan}
 use Rattle.begin.specs.Each.{total}
-use Rattle.begin.specs.Planned.{tableStart}
 use Rattle.begin.specs.JudgeLaws.{short-step, place-step}
-use native.Mathlib.Omega.{arith}
+use Rattle.begin.specs.Planned.{tableStart}
 use borrow.Author.Needs.{needs}
 use Rattle.begin.proofs.judging.tables_short.Statement.{statement}
 use Rattle.begin.proofs.judging.tables_short.Tie as tie
@@ -46,13 +46,18 @@ loop-less c = omega arith
 loop-again : tie.Need-loop-again Inv-loop μ-loop
 unfolding tableStart
 loop-again c =
-    let f : ℕ → ℕ = λ q. getD (c .before .before .before .before .args .t1) q noSpan .length in (
-      short-step f (c .before .before .before .loop .p) (c .before .before .before .before .args .limit) (c .before .before .before .loop .at) (f (c .before .before .before .loop .p)) (c .before .before .before .loop .narrow) (c .before .before .before .loop .inv .0) (c .before .before .before .loop .inv .1 .0) refl,
-      (c .sum .ensures ∙ place-step f (c .before .before .before .loop .p) (c .before .before .before .before .args .limit) (c .before .before .before .loop .at) (f (c .before .before .before .loop .p)) (c .before .before .before .loop .narrow) (c .before .before .before .loop .inv .0) (c .before .before .before .loop .inv .1 .0) refl, omega arith),
+    let args = c .before .before .before .before .args in
+    let loop = c .before .before .before .loop in
+    let size : ℕ → ℕ = λ q. getD (args .t1) q noSpan .length in
+    let place = loop .inv .1 .0 in (
+      short-step size (loop .p) (args .limit) (loop .at) (size (loop .p)) (loop .narrow) (loop .inv .0) place refl,
+      (c .sum .ensures ∙ place-step size (loop .p) (args .limit) (loop .at) (size (loop .p)) (loop .narrow) (loop .inv .0) place refl, omega arith),
     )
 
 returns : tie.Need-returns Inv-loop μ-loop
-returns c = let all : c .before .loop .p ≡ 8 = omega arith in rw all at (c .before .loop .inv .0)
+returns c =
+    let all : c .before .loop .p ≡ 8 = omega arith in
+    rw all at (c .before .loop .inv .0)
 
 pub tables-short-spec : {M : Type 1} → statement M
 tables-short-spec =

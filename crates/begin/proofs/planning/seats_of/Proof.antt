@@ -2,12 +2,12 @@
 -- measure is how many are left. Assumes nothing.
 use mathlib.Core.Path.{_≡_, refl, _∙_}
 use Prim.Native.Nat.{ℕ, _≤_, _-_}
+use native.Mathlib.Omega.{arith}
 use lib.ListN.{length, take, getD, length-set}
 use Rattle.setup.specs.Setup.{noSpan}
 use Rattle.begin.specs.Each.{firsts, total}
 use Rattle.begin.specs.EachLaws.{firsts-step, firsts-end, sum-step}
 use Rattle.begin.specs.Planned.{tableStart, seatOf}
-use native.Mathlib.Omega.{arith}
 use borrow.Author.Needs.{needs}
 use Rattle.begin.proofs.planning.seats_of.Statement.{statement}
 use Rattle.begin.proofs.planning.seats_of.Tie as tie
@@ -49,19 +49,26 @@ loop-less c = omega arith
 
 loop-again : tie.Need-loop-again Inv-loop μ-loop
 unfolding tableStart
-loop-again c = (
-  firsts-step (seatOf (c .before .before .before .before .before .args .setup) (c .before .before .before .before .before .args .t2)) (c .before .before .before .before .loop .seats) (c .before .before .before .before .loop .p) (c .before .seat-of .result) (omega arith) (c .before .before .before .before .loop .inv .0) (c .before .seat-of .ensures),
-  (
-    simp length-set (c .before .before .before .before .loop .inv .1 .0),
-    (
-      omega arith,
-      c .sum .ensures ∙ sum-step (λ (q : ℕ). getD (c .before .before .before .before .before .args .t2) q noSpan .length) (c .before .before .before .before .loop .p) 8 (c .before .before .before .before .before .args .limit) (c .before .before .before .before .loop .at) (getD (c .before .before .before .before .before .args .t2) (c .before .before .before .before .loop .p) noSpan .length) (c .before .before .before .before .before .pre) (omega arith) (c .before .before .before .before .loop .inv .1 .1 .1) refl,
-    ),
-  ),
-)
+loop-again c =
+    let args = c .before .before .before .before .before .args in
+    let loop = c .before .before .before .before .loop in
+    let seat = c .before .seat-of in
+    let size : ℕ → ℕ = λ q. getD (args .t2) q noSpan .length in (
+      firsts-step (seatOf (args .setup) (args .t2)) (loop .seats) (loop .p) (seat .result) (omega arith) (loop .inv .0) (seat .ensures),
+      (
+        simp length-set (loop .inv .1 .0),
+        (
+          omega arith,
+          c .sum .ensures ∙ sum-step size (loop .p) 8 (args .limit) (loop .at) (size (loop .p)) (c .before .before .before .before .before .pre) (omega arith) (loop .inv .1 .1 .1) refl,
+        ),
+      ),
+    )
 
 returns : tie.Need-returns Inv-loop μ-loop
-returns c = firsts-end (seatOf (c .before .before .args .setup) (c .before .before .args .t2)) (c .before .loop .seats) (c .before .loop .p) 8 (c .before .loop .inv .1 .0) (omega arith) (c .before .loop .inv .0)
+returns c =
+    let args = c .before .before .args in
+    let loop = c .before .loop in
+    firsts-end (seatOf (args .setup) (args .t2)) (loop .seats) (loop .p) 8 (loop .inv .1 .0) (omega arith) (loop .inv .0)
 
 pub seats-of-spec : {M : Type 1} → statement M
 seats-of-spec =

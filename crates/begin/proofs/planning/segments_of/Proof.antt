@@ -2,11 +2,11 @@
 -- is how many are left. Assumes nothing.
 use mathlib.Core.Path.{_≡_, refl, _∙_}
 use Prim.Native.Nat.{_≤_, _-_}
+use native.Mathlib.Omega.{arith}
 use lib.ListN.{length, take, length-set}
 use Rattle.begin.specs.Each.{firsts, total}
 use Rattle.begin.specs.EachLaws.{firsts-step, firsts-end, sum-step}
 use Rattle.begin.specs.Planned.{sizeOf, startOf, segmentOf}
-use native.Mathlib.Omega.{arith}
 use borrow.Author.Needs.{needs}
 use Rattle.begin.proofs.planning.segments_of.Statement.{statement}
 use Rattle.begin.proofs.planning.segments_of.Tie as tie
@@ -45,19 +45,28 @@ loop-less c = omega arith
 
 loop-again : tie.Need-loop-again Inv-loop μ-loop
 unfolding startOf
-loop-again c = (
-  firsts-step (segmentOf (c .before .before .before .before .before .args .setup) (c .before .before .before .before .before .args .files)) (c .before .before .before .before .loop .segments) (c .before .before .before .before .loop .row) (c .before .segment-of .result) (omega arith) (c .before .before .before .before .loop .inv .0) (c .before .segment-of .ensures),
-  (
-    simp length-set (c .before .before .before .before .loop .inv .1 .0),
-    (
-      omega arith,
-      c .sum .ensures ∙ sum-step (sizeOf (c .before .before .before .before .before .args .setup) (c .before .before .before .before .before .args .files)) (c .before .before .before .before .loop .row) 32 (c .before .before .before .before .before .args .limit) (c .before .before .before .before .loop .at) (c .before .before .size-of .result) (c .before .before .before .before .before .pre) (omega arith) (c .before .before .before .before .loop .inv .1 .1 .1) (c .before .before .size-of .ensures),
-    ),
-  ),
-)
+loop-again c =
+    let args = c .before .before .before .before .before .args in
+    let loop = c .before .before .before .before .loop in
+    let size = c .before .before .size-of in
+    let segment = c .before .segment-of in
+    let place = loop .inv .1 .1 .1 in (
+      firsts-step (segmentOf (args .setup) (args .files)) (loop .segments) (loop .row) (segment .result) (omega arith) (loop .inv .0) (segment .ensures),
+      (
+        simp length-set (loop .inv .1 .0),
+        (
+          omega arith,
+          c .sum .ensures
+              ∙ sum-step (sizeOf (args .setup) (args .files)) (loop .row) 32 (args .limit) (loop .at) (size .result) (c .before .before .before .before .before .pre) (omega arith) place (size .ensures),
+        ),
+      ),
+    )
 
 returns : tie.Need-returns Inv-loop μ-loop
-returns c = firsts-end (segmentOf (c .before .before .args .setup) (c .before .before .args .files)) (c .before .loop .segments) (c .before .loop .row) 32 (c .before .loop .inv .1 .0) (omega arith) (c .before .loop .inv .0)
+returns c =
+    let args = c .before .before .args in
+    let loop = c .before .loop in
+    firsts-end (segmentOf (args .setup) (args .files)) (loop .segments) (loop .row) 32 (loop .inv .1 .0) (omega arith) (loop .inv .0)
 
 pub segments-of-spec : {M : Type 1} → statement M
 segments-of-spec =
