@@ -5,11 +5,11 @@ use mathlib.Core.List.{List, [], _∷_, _++_}
 use mathlib.Core.Path.{_≡_, refl, sym, ap, _∙_}
 use Prim.Native.Nat.{ℕ, _≤_, _<_}
 use native.Mathlib.Omega.{arith}
-use borrow.Author.Tests.{eq-eqb, ne-eqb, lt-ltb}
+use borrow.Author.Tests.{lt-ltb}
 use lib.ListN.{length, take}
 use lib.Seq.{take-all}
-use Rattle.checks.specs.Checks.{Check, refused, after}
-use Rattle.checks.specs.Settle.{settle, by-settle}
+use Rattle.checks.specs.Checks.{after}
+use Rattle.checks.specs.Settle.{by-settle, settle-done, settle-refused}
 use Rattle.octets.specs.Lists.{over, part}
 use Rattle.octets.specs.Same.{sameBytes}
 use Rattle.octets.specs.WriteLaws.{length-over, over-same}
@@ -36,20 +36,6 @@ use Rattle.accounts.specs.Who.{whoChecks, who}
 use Rattle.accounts.specs.SetPassword.{Changed, changed, fileImage, onStore, inMemory, setChecks, setPassword}
 
 -- ---- refusals
-
-settle-refused : {A : Type 0} (n : ℕ) (x y : A) → (n ≡ 0 → ⊥) → settle n x y ≡ y
-unfolding settle
-settle-refused n x y h = rw (ne-eqb n 0 h)
-
-settle-done : {A : Type 0} (n : ℕ) (x y : A) → n ≡ 0 → settle n x y ≡ x
-unfolding settle
-settle-done n x y e = rw (eq-eqb n 0 e)
-
--- a number of the common checks is the answer
-pub after-refused : (n : ℕ) (checks : List Check) → (n ≡ 0 → ⊥) → after n checks ≡ n
-unfolding after refused
-after-refused n [] h = refl
-after-refused n (c ∷ checks) h = rw (ne-eqb n 0 h) (after-refused n checks h)
 
 pub login-refused : (n : ℕ) (r : LoginRecord) (table name pw : List ℕ) → (after n (loginChecks r name pw) ≡ 0 → ⊥)
     → login n r table name pw ≡ attempt (after n (loginChecks r name pw)) 0 r

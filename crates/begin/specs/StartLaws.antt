@@ -4,12 +4,12 @@ use mathlib.Core.List.{List, [], _∷_}
 use mathlib.Core.Path.{_≡_, refl, sym, _∙_}
 use Prim.Native.Nat.{ℕ, _≤_}
 use native.Mathlib.Omega.{arith}
-use borrow.Author.Tests.{eq-eqb, ne-eqb, ltb-false}
+use borrow.Author.Tests.{ltb-false}
 use lib.Dec.{ltb}
 use lib.ListN.{length}
-use Rattle.checks.specs.Checks.{Check, _when_, refused, after}
-use Rattle.checks.specs.Laws.{not-due}
-use Rattle.checks.specs.Settle.{settle}
+use Rattle.checks.specs.Checks.{_when_, after}
+use Rattle.checks.specs.Laws.{not-due, after-refused}
+use Rattle.checks.specs.Settle.{settle-done, settle-refused}
 use Rattle.setup.specs.declared.Span.{Span}
 use Rattle.setup.specs.declared.Setup.{Setup}
 use Rattle.setup.specs.declared.Outcome.{Outcome}
@@ -23,20 +23,6 @@ use Rattle.begin.specs.Filled.{arenaImage, tablesImage, cleared}
 use Rattle.begin.specs.Planned.{startOf, tableStart, planned, planOf, firstState}
 use Rattle.begin.specs.Start.{Beginning, early, described, noRoom, short, badPasswords, lateChecks, verdict, beginning, accepted, filled, carriedOut, start}
 use Rattle.begin.specs.Start.{refused as refusedStart}
-
-settle-zero : {A : Type 0} (n : ℕ) (x y : A) → n ≡ 0 → settle n x y ≡ x
-unfolding settle
-settle-zero n x y e = rw (eq-eqb n 0 e)
-
-settle-other : {A : Type 0} (n : ℕ) (x y : A) → (n ≡ 0 → ⊥) → settle n x y ≡ y
-unfolding settle
-settle-other n x y e = rw (ne-eqb n 0 e)
-
--- a refusal hides those behind it
-after-kept : (n : ℕ) (checks : List Check) → (n ≡ 0 → ⊥) → after n checks ≡ n
-unfolding after refused
-after-kept n [] e = refl
-after-kept n (c ∷ checks) e = rw (ne-eqb n 0 e) (after-kept n checks e)
 
 -- 415 and 416, of files that were found
 abbrev pub lateOf : Setup → List Span → List Span → List ℕ → ℕ → ℕ → ℕ → ℕ
@@ -85,7 +71,7 @@ module _ (soft : Bool) (text store arena tables screens : List ℕ) (permissions
     pub refused-late : (n ≡ 0 → ⊥) → beginning (refusedStart n 0) arena tables screens permissions
         ≡ setUp s soft text store arena tables screens permissions
     unfolding setUp carriedOut
-    refused-late d = rw (← same-number) (sym (settle-other n _ _ d))
+    refused-late d = rw (← same-number) (sym (settle-refused n _ _ d))
 
     abbrev kept : Kept
     kept = record { store = length store; arena = length arena; tables = length tables; screens = length screens }
@@ -97,7 +83,7 @@ module _ (soft : Bool) (text store arena tables screens : List ℕ) (permissions
         → beginning (accepted plan state) memory users cells table ≡ setUp s soft text store arena tables screens permissions
     unfolding setUp carriedOut filled planOf
     all-filled d plan pe state se memory users cells table me ue ce te =
-        rw (← same-number, me, ue, ce, te, se, pe, f, p) (sym (settle-zero n _ _ d))
+        rw (← same-number, me, ue, ce, te, se, pe, f, p) (sym (settle-done n _ _ d))
 
   module _ (count : ℕ) (active : List Bool) where
     abbrev begun : Beginning
@@ -105,18 +91,18 @@ module _ (soft : Bool) (text store arena tables screens : List ℕ) (permissions
 
     by-early : (n : ℕ) → n ≡ early count active text store → (n ≡ 0 → ⊥) → described count active text store ≡ refusal n 0
     unfolding described
-    by-early n e z = rw (← e) (settle-other n (read true store text count active) (refusal n 0) z)
+    by-early n e z = rw (← e) (settle-refused n (read true store text count active) (refusal n 0) z)
 
     by-text : (n : ℕ) → n ≡ early count active text store → n ≡ 0 → described count active text store ≡ read true store text count active
     unfolding described
-    by-text n e z = rw (← e) (settle-zero n (read true store text count active) (refusal n 0) z)
+    by-text n e z = rw (← e) (settle-done n (read true store text count active) (refusal n 0) z)
 
     -- what refuses the text, or stands before it, refuses the start
     by-described : (o : Outcome) → described count active text store ≡ o → (o .number ≡ 0 → ⊥)
         → beginning (refusedStart (o .number) (o .line)) arena tables screens permissions ≡ begun
     unfolding start verdict carriedOut
     by-described o e z =
-        rw (e, after-kept (o .number) _ z, settle-other (o .number) 0 (o .line) z) (sym (settle-other (o .number) _ _ z))
+        rw (e, after-refused (o .number) _ z, settle-refused (o .number) 0 (o .line) z) (sym (settle-refused (o .number) _ _ z))
 
     -- 401 to 403
     pub refused-early : (n : ℕ) → n ≡ early count active text store → (n ≡ 0 → ⊥)
@@ -130,7 +116,7 @@ module _ (soft : Bool) (text store arena tables screens : List ℕ) (permissions
 
       good-text : o .number ≡ 0 → setUp (o .setup) soft text store arena tables screens permissions ≡ begun
       unfolding start setUp verdict
-      good-text d = rw (by-text n e z ∙ sym r, settle-zero (o .number) 0 (o .line) d, d)
+      good-text d = rw (by-text n e z ∙ sym r, settle-done (o .number) 0 (o .line) d, d)
 
       -- the text is good
       pub text-good : (b : Beginning) → o .number ≡ 0 → b ≡ setUp (o .setup) soft text store arena tables screens permissions → b ≡ begun

@@ -1,9 +1,9 @@
--- What it says that nothing was refused.
+-- What it says that nothing was refused, and that something was.
 use mathlib.Core.Bool.{Bool, true, false}
 use mathlib.Core.List.{List, [], _∷_}
 use mathlib.Core.Path.{_≡_, refl}
 use Prim.Native.Nat.{ℕ}
-use borrow.Author.Tests.{eqb-true}
+use borrow.Author.Tests.{eqb-true, ne-eqb}
 use lib.Dec.{eqb}
 use Rattle.checks.specs.Checks.{Check, _when_, refused, after}
 
@@ -37,3 +37,9 @@ pub second-not-due : (n number : ℕ) (c : Check) (due : Bool) (checks : List Ch
     → after n (c ∷ (number when due) ∷ checks) ≡ 0 → (number ≡ 0 → ⊥) → due ≡ false
 unfolding after
 second-not-due n number c due checks e h = not-due (refused n (c .due) (c .number)) number due checks e h
+
+-- a refusal hides those behind it
+pub after-refused : (n : ℕ) (checks : List Check) → (n ≡ 0 → ⊥) → after n checks ≡ n
+unfolding after refused
+after-refused n [] h = refl
+after-refused n (c ∷ checks) h = rw (ne-eqb n 0 h) (after-refused n checks h)

@@ -12,11 +12,10 @@ use lib.ListN.{length, length-append, length-replicate}
 use Rattle.octets.specs.NumberLaws.{length-spelled}
 use Rattle.octets.specs.WriteLaws.{length-over}
 use Rattle.checks.specs.Checks.{_when_, after}
-use Rattle.checks.specs.Settle.{by-settle}
+use Rattle.checks.specs.Settle.{by-settle, settle-refused}
 use Rattle.state.specs.declared.Plan.{Plan}
 use Rattle.memory.specs.Rights.{rowOf, rightOf}
 use Rattle.checks.specs.Told.{Told, told}
-use Rattle.memory.specs.MemoryLaws.{settle-refused}
 use Rattle.database.specs.Database.{filled, selectorOf, entry, entryOf, listed, entries, entryCount, header, database, configuration}
 
 -- ---- lengths

@@ -2,13 +2,12 @@
 use mathlib.Core.List.{List}
 use mathlib.Core.Path.{_≡_, refl}
 use Prim.Native.Nat.{ℕ}
-use borrow.Author.Tests.{ne-eqb}
 use lib.ListN.{length, take}
 use Rattle.octets.specs.Lists.{part, over, writeAt}
 use Rattle.octets.specs.OnPartLaws.{length-onPart}
 use Rattle.octets.specs.WriteLaws.{length-over, length-writeAt}
 use Rattle.checks.specs.Checks.{after}
-use Rattle.checks.specs.Settle.{settle, by-settle}
+use Rattle.checks.specs.Settle.{by-settle, settle-refused}
 use Rattle.memory.specs.declared.Reach.{Reach}
 use Rattle.checks.specs.Told.{Told, told}
 use Rattle.memory.specs.Memory.{bytesOf, loadChecks, load, storeChecks, store, flushChecks, flush}
@@ -41,11 +40,6 @@ length-flush n r taken arena file =
     (λ _. refl)
 
 -- ---- refusals
-
-module _ {A : Type 0} where
-  pub settle-refused : (n : ℕ) (done refused : A) → (n ≡ 0 → ⊥) → settle n done refused ≡ refused
-  unfolding settle
-  settle-refused n done refused h = rw (ne-eqb n 0 h)
 
 pub load-refused : (n : ℕ) (r : Reach) (offset : ℕ) (arena buffer : List ℕ) → (after n (loadChecks r offset (length buffer)) ≡ 0 → ⊥)
     → load n r offset arena buffer ≡ told (after n (loadChecks r offset (length buffer))) buffer
