@@ -1,0 +1,3 @@
+-- What the demands say of a terminal, as theorems about steps and runs.
+pub mod Refusals
+pub mod WriteFailure
