@@ -1,3 +1,4 @@
 -- What the demands say of a terminal, as theorems about steps and runs.
 pub mod Refusals
 pub mod WriteFailure
+pub mod Lengths
