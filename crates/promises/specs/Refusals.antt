@@ -70,7 +70,7 @@ record-back t p = partition-back t p
 
 -- ---- the calls on devices
 
-device-refused : (t : Terminal) (p m : ℕ) (lent : List ℕ) (o : console.Outcome) → Answers m (partitionOf t p) lent o → o .reply .number ≢ 0
+pub device-refused : (t : Terminal) (p m : ℕ) (lent : List ℕ) (o : console.Outcome) → Answers m (partitionOf t p) lent o → o .reply .number ≢ 0
     → devices.replied t p o ≡ outcome (answer m 0 t) lent
 unfolding devices.replied console.refusal
 device-refused t p m lent o a h = rw (a .1 (λ e. h (a .0 ∙ e)), partition-back t p)

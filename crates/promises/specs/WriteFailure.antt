@@ -1,54 +1,34 @@
 -- Demand 1: "only a store write that breaks off may leave its stated first bytes, and memory's password table then follows the store". Which moves can be
 -- answered 203 (WRITE_FAILURE), and what each of them may then have changed. Writes to a device change nothing then: Refusals has that.
-use mathlib.Core.Bool.{Bool, true, false, not, _&&_, _||_, and-eq-true-iff}
+use mathlib.Core.Bool.{Bool, true, false, _||_}
 use mathlib.Core.List.{List, [], _∷_}
 use mathlib.Core.Logic.{_≢_}
-use mathlib.Core.Path.{_≡_, refl, sym, _∙_}
+use mathlib.Core.Path.{_≡_, refl, subst, sym, _∙_}
 use Prim.Native.Nat.{ℕ, _+_, _-_, _≤_, min}
 use native.Mathlib.Nat.{le-refl}
 use native.Mathlib.Omega.{arith}
-use borrow.Author.Tests.{eqb-false, not-true}
-use lib.Dec.{eqb, ltb}
+use lib.Dec.{ltb}
 use lib.ListN.{length, take, drop, length-take}
 use Rattle.octets.specs.Lists.{part, over, onPart, writeAt}
-use Rattle.octets.specs.Same.{sameBytes}
-use Rattle.sha256.specs.Digest.{digest}
-use Rattle.passwords.specs.Account.{digestLength}
 use Rattle.octets.specs.OnPartLaws.{onPart-same, take-onPart-before, drop-onPart-behind, part-onPart-same}
 use Rattle.octets.specs.WriteLaws.{length-over, over-same, writeAt-zero, onPart-writeAt, drop-writeAt-behind}
-use Rattle.checks.specs.Checks.{Check, refused, after}
-use Rattle.checks.specs.Settle.{settle, by-settle}
-use Rattle.checks.specs.Told.{Told, told}
-use Rattle.devices.specs.Choice.{by-cond}
+use Rattle.checks.specs.Settle.{by-settle}
+use Rattle.checks.specs.Told.{Told}
 use Rattle.setup.specs.declared.Span.{Span}
 use Rattle.state.specs.declared.Segment.{Segment}
-use Rattle.state.specs.declared.LoginRecord.{LoginRecord}
 use Rattle.state.specs.Parts.{seatAt}
-use Rattle.guard.specs.Guard.{guard}
-use Rattle.console.specs.DeviceChecks.{deviceChecks}
-use Rattle.console.specs.ConsoleLaws.{readNext-answers, readRandom-answers}
 use Rattle.memory.specs.Rights.{reach}
-use Rattle.memory.specs.Memory.{bytesOf, loadChecks, load, storeChecks, store, flushChecks, flush}
-use Rattle.database.specs.Database.{configuration}
-use Rattle.passwords.specs.declared.Lookup.{Lookup}
-use Rattle.passwords.specs.declared.Lookup.the-variants.{At, Nowhere}
-use Rattle.passwords.specs.PasswordFile.{find}
-use Rattle.accounts.specs.declared.Attempt.{Attempt}
+use Rattle.memory.specs.Memory.{bytesOf, flushChecks, flush}
 use Rattle.accounts.specs.Strings.{stringOf}
 use Rattle.accounts.specs.Users.{placeOf}
-use Rattle.accounts.specs.Login.{tried, loginChecks, login}
-use Rattle.accounts.specs.Who.{whoChecks, who}
 use Rattle.accounts.specs.SetPassword.{Changed, fileImage, onStore, written, setChecks, setPassword}
 use Rattle.accounts.specs.AccountLaws.{file-length, table-length, kept-together}
-use Rattle.terminal.specs.declared.Terminal.{Terminal}
-use Rattle.terminal.specs.declared.Answer.{Answer}
-use Rattle.terminal.specs.Terminal.{Outcome, unmoved, partitionOf, recordOf, fileOf, tableOf, guardOf, differs, tablesWrong}
-use Rattle.terminal.specs.DeviceCalls as devices
+use Rattle.terminal.specs.Terminal.{unmoved, recordOf, fileOf, tableOf, guardOf, differs, tablesWrong}
 use Rattle.terminal.specs.MemoryCalls as memory
 use Rattle.terminal.specs.AccountCalls as accounts
-use Rattle.terminal.specs.StopCalls as stops
+use Rattle.promises.specs.Numbers.{common, numbersOf, among, within, call-among, not-given, answer-known}
 use Rattle.promises.specs.Refusals.{Unchanged, writes, part-back, write-next-refused, write-random-refused}
-use Rattle.steps.specs.World.{World, Move, fills, answers, becomes, step, withStore, withTables}
+use Rattle.steps.specs.World.{World, Move, answers, step, withStore, withTables}
 use Rattle.steps.specs.World.Move.{ReadNext, ReadRandom, WriteNext, WriteRandom, Load, Store, Flush, Login, Who, Logout, SetPassword, Shutdown, Powerdown, Configuration, Key, Attention, Fault}
 
 -- ---- which moves can be answered 203
@@ -73,87 +53,33 @@ canFail (Key byte) = false
 canFail Attention = false
 canFail (Fault p device set) = false
 
--- no check of a list gives the number k
-unfoldable none : ℕ → List Check → Bool
-none k [] = true
-none k (c ∷ checks) = not (eqb (c .number) k) && none k checks
-
-refused-not : (k n : ℕ) (due : Bool) (number : ℕ) → 0 ≢ k → n ≢ k → number ≢ k → refused n due number ≢ k
-unfolding refused
-refused-not k n due number z h g =
-    by-cond (λ (x : ℕ). x ≢ k) (eqb n 0) (λ e. by-cond (λ (x : ℕ). x ≢ k) due (λ f. g) (λ f. z)) (λ e. h)
-
--- then neither is the answer
-after-not : (k n : ℕ) (checks : List Check) → 0 ≢ k → n ≢ k → none k checks ≡ true → after n checks ≢ k
-unfolding none after
-after-not k n [] z h e = h
-after-not k n (c ∷ checks) z h e =
-    let both = and-eq-true-iff (not (eqb (c .number) k)) (none k checks) .0 e in
-    after-not k (refused n (c .due) (c .number)) checks z (refused-not k n (c .due) (c .number) z h (eqb-false (c .number) k (not-true _ (both .0)))) (both .1)
-
-checked : (n : ℕ) (checks : List Check) → n ≢ 203 → none 203 checks ≡ true → after n checks ≢ 203
-checked n checks = after-not 203 n checks (λ e. omega arith)
-
-guard-not : (t : Terminal) (wrong : Bool) (p : ℕ) → guardOf t wrong p ≢ 203
-unfolding guardOf guard none
-guard-not t wrong p = checked 0 _ (λ e. omega arith) refl
-
-zero-not : (n : ℕ) → n ≡ 0 → n ≢ 203
-zero-not n z e = omega arith
-
--- a call that is done is answered 0, one that is not by its checks
-told-not : (m : ℕ) (done lent : List ℕ) → m ≢ 203 → settle m (told 0 done) (told m lent) .number ≢ 203
-told-not m done lent h = by-settle (λ (o : Told). o .number ≢ 203) m (λ e f. omega arith) (λ e. h)
-
-tried-not : (r : LoginRecord) (table password : List ℕ) (at : Lookup) → tried r table password at .number ≢ 203
-unfolding tried
-tried-not r table password (Nowhere total) = λ e. omega arith
-tried-not r table password (At i place total) =
-    by-cond (λ (a : Attempt). a .number ≢ 203) (sameBytes (digest password) (part place digestLength table)) (λ t e. omega arith) (λ t e. omega arith)
-
-login-not : (n : ℕ) (r : LoginRecord) (table name password : List ℕ) → n ≢ 203 → login n r table name password .number ≢ 203
-unfolding login loginChecks none
-login-not n r table name password h =
-    by-settle (λ (a : Attempt). a .number ≢ 203) _ (λ e. tried-not r table (stringOf password) (find (stringOf name) table)) (λ e. checked n _ h refl)
-
-logout-not : (t : Terminal) (p : ℕ) → accounts.logout t p .number ≢ 203
-unfolding accounts.logout
-logout-not t p = by-settle (λ (a : Answer). a .number ≢ 203) _ (λ e f. omega arith) (λ e. guard-not t false p)
-
-shutdown-not : (t : Terminal) (p : ℕ) (message screens : List ℕ) → stops.shutdown t p message screens .answer .number ≢ 203
-unfolding stops.shutdown stops.stopped
-shutdown-not t p message screens = by-settle (λ (o : Outcome). o .answer .number ≢ 203) _ (λ e f. omega arith) (λ e. guard-not t _ p)
-
-powerdown-not : (t : Terminal) (p : ℕ) (screens : List ℕ) → stops.powerdown t p screens .answer .number ≢ 203
-unfolding stops.powerdown stops.switchedOff
-powerdown-not t p screens =
-    by-cond (λ (o : Outcome). o .answer .number ≢ 203) (t .plan .soft)
-    (λ soft. by-settle (λ (o : Outcome). o .answer .number ≢ 203) _ (λ e f. omega arith) (λ e. guard-not t _ p))
-    (λ none. shutdown-not t p [] screens)
+-- 203 is one of those moves' numbers, and of no other's
+can-fail : (m : Move) → among 203 (numbersOf m) ≡ true → canFail m ≡ true
+unfolding canFail among numbersOf
+can-fail (WriteNext p major minor request bytes) e = refl
+can-fail (WriteRandom p major minor offset request bytes) e = refl
+can-fail (Flush p selector taken) e = refl
+can-fail (SetPassword p password taken) e = refl
+can-fail (ReadNext p major minor request buffer) e = e
+can-fail (ReadRandom p major minor offset request buffer) e = e
+can-fail (Load p selector offset buffer) e = e
+can-fail (Store p selector offset bytes) e = e
+can-fail (Login p name password) e = e
+can-fail (Who p buffer) e = e
+can-fail (Logout p) e = e
+can-fail (Shutdown p message) e = e
+can-fail (Powerdown p) e = e
+can-fail (Configuration p buffer) e = e
+can-fail (Key byte) e = e
+can-fail Attention e = e
+can-fail (Fault p device set) e = e
 
 -- WRITE_FAILURE comes from those four alone
 pub only-writes-fail : (w : World) (m : Move) → step w m .number ≡ 203 → canFail m ≡ true
-unfolding step fills answers becomes canFail unmoved none devices.readNext devices.readRandom devices.replied deviceChecks memory.load load loadChecks memory.store store storeChecks memory.configuration configuration accounts.login accounts.tried accounts.who who whoChecks
-only-writes-fail w (WriteNext p major minor request bytes) e = refl
-only-writes-fail w (WriteRandom p major minor offset request bytes) e = refl
-only-writes-fail w (Flush p selector taken) e = refl
-only-writes-fail w (SetPassword p password taken) e = refl
-only-writes-fail w (ReadNext p major minor request buffer) e =
-    absurd (checked _ _ (guard-not (w .terminal) _ p) refl (sym (readNext-answers _ (partitionOf (w .terminal) p) p major minor request buffer .0) ∙ e))
-only-writes-fail w (ReadRandom p major minor offset request buffer) e =
-    absurd (checked _ _ (guard-not (w .terminal) _ p) refl (sym (readRandom-answers _ (partitionOf (w .terminal) p) p major minor offset request (w .screens) buffer .0) ∙ e))
-only-writes-fail w (Load p selector offset buffer) e = absurd (told-not _ _ buffer (checked _ _ (guard-not (w .terminal) _ p) refl) e)
-only-writes-fail w (Store p selector offset bytes) e = absurd (told-not _ _ (w .arena) (checked _ _ (guard-not (w .terminal) _ p) refl) e)
-only-writes-fail w (Login p name password) e =
-    absurd (login-not _ (recordOf (w .terminal) p) (tableOf (w .terminal) p (w .tables)) name password (guard-not (w .terminal) _ p) e)
-only-writes-fail w (Who p buffer) e = absurd (told-not _ _ buffer (checked _ _ (guard-not (w .terminal) _ p) refl) e)
-only-writes-fail w (Logout p) e = absurd (logout-not (w .terminal) p e)
-only-writes-fail w (Shutdown p message) e = absurd (shutdown-not (w .terminal) p message (w .screens) e)
-only-writes-fail w (Powerdown p) e = absurd (powerdown-not (w .terminal) p (w .screens) e)
-only-writes-fail w (Configuration p buffer) e = absurd (told-not _ _ buffer (checked _ _ (guard-not (w .terminal) _ p) refl) e)
-only-writes-fail w (Key byte) e = absurd (zero-not 0 refl e)
-only-writes-fail w Attention e = absurd (zero-not 0 refl e)
-only-writes-fail w (Fault p device set) e = absurd (zero-not 0 refl e)
+only-writes-fail w m e = can-fail m (subst (λ (n : ℕ). among n (numbersOf m) ≡ true) e (answer-known w m))
+
+zero-not : (n : ℕ) → n ≡ 0 → n ≢ 203
+zero-not n z e = omega arith
 
 -- ---- what a write to the store may leave
 
@@ -222,7 +148,7 @@ module _ (w : World) (p selector taken : ℕ) where
       → (ltb taken (segmentOf w p selector .memory .length) ≡ true)
       × (step w (Flush p selector taken) .world .store
       ≡ onPart (segmentOf w p selector .file .place) (segmentOf w p selector .file .length) (over (take taken (bytesOf (segmentOf w p selector) (w .arena)))) (w .store))
-  unfolding step answers memory.flush unmoved flush flushChecks none writes
+  unfolding step answers memory.flush unmoved flush flushChecks among within writes
   flush-failed =
       by-settle
       (λ (o : Told).
@@ -232,7 +158,7 @@ module _ (w : World) (p selector taken : ℕ) where
       ≡ onPart (segmentOf w p selector .file .place) (segmentOf w p selector .file .length) (over (take taken (bytesOf (segmentOf w p selector) (w .arena)))) (w .store)))
       _
       (λ e f. (broke-off (ltb taken (segmentOf w p selector .memory .length)) f, refl))
-      (λ e f. absurd (checked _ _ (guard-not (w .terminal) _ p) refl f))
+      (λ e f. not-given (common (211 ∷ 201 ∷ 202 ∷ [])) _ 203 (call-among (211 ∷ 201 ∷ 202 ∷ []) (w .terminal) _ p _ refl) f refl)
 
 -- ---- set-password
 
@@ -264,7 +190,7 @@ module _ (w : World) (p : ℕ) (password : List ℕ) (taken : ℕ) where
       → (ltb taken (length (fileOf (w .terminal) p (w .store))) ≡ true)
       × (fileOf (w .terminal) p (step w (SetPassword p password taken) .world .store)
       ≡ over (take taken (fileImage (placeOf (recordOf (w .terminal) p .user)) (stringOf password) (tableOf (w .terminal) p (w .tables)))) (fileOf (w .terminal) p (w .store)))
-  unfolding step answers accounts.setPassword accounts.replaced setPassword setChecks onStore written none writes fileOf
+  unfolding step answers accounts.setPassword accounts.replaced setPassword setChecks onStore written among within writes fileOf
   set-password-failed =
       let s = seatAt (w .terminal .plan) p .file in
       let file = part (s .place) (s .length) (w .store) in
@@ -280,7 +206,7 @@ module _ (w : World) (p : ℕ) (password : List ℕ) (taken : ℕ) where
         part-onPart-same (over (over (take taken image) file)) (length-over (over (take taken image) file)) (s .place) (s .length) (w .store)
             ∙ over-same (over (take taken image) file) file (length-over (take taken image) file),
       ))
-      (λ e f. absurd (checked _ _ (guard-not (w .terminal) _ p) refl f))
+      (λ e f. not-given (common (303 ∷ 302 ∷ [])) _ 203 (call-among (303 ∷ 302 ∷ []) (w .terminal) _ p _ refl) f refl)
 
   -- "memory's password table then follows the store": where the two were the same, they are the same afterwards, whatever is answered
   pub table-follows-store : fileOf (w .terminal) p (w .store) ≡ tableOf (w .terminal) p (w .tables)
