@@ -1,0 +1,2 @@
+-- Steps and runs of a terminal.
+pub mod World
