@@ -1,0 +1,4 @@
+-- What every world of a run keeps.
+pub mod Good
+pub mod Partitions
+pub mod Changes
