@@ -2,3 +2,5 @@
 pub mod Good
 pub mod Partitions
 pub mod Changes
+pub mod Attention
+pub mod DeviceMoves
