@@ -4,3 +4,6 @@ pub mod Partitions
 pub mod Changes
 pub mod Attention
 pub mod DeviceMoves
+pub mod AccountMoves
+pub mod StoreChanges
+pub mod MemoryMoves
