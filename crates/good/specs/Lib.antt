@@ -7,3 +7,4 @@ pub mod DeviceMoves
 pub mod AccountMoves
 pub mod StoreChanges
 pub mod MemoryMoves
+pub mod PasswordMoves
