@@ -8,3 +8,4 @@ pub mod AccountMoves
 pub mod StoreChanges
 pub mod MemoryMoves
 pub mod PasswordMoves
+pub mod Steps
