@@ -9,3 +9,5 @@ pub mod StoreChanges
 pub mod MemoryMoves
 pub mod PasswordMoves
 pub mod Steps
+pub mod Numbers
+pub mod NeverBad
