@@ -11,3 +11,5 @@ pub mod PasswordMoves
 pub mod Steps
 pub mod Numbers
 pub mod NeverBad
+pub mod Stays
+pub mod Runs

@@ -43,7 +43,7 @@ dseg-declared : (plan : Plan) (row : ℕ) → ltb row 16 ≡ true → declared p
 unfolding declared
 dseg-declared plan row low h = ltb-true row (plan .dsegs) (rw low at h)
 
-reached : (plan : Plan) (permissions : List (List ℕ)) (n p selector : ℕ) → after n (flushChecks (reach plan permissions p selector)) ≡ 0 → rowOf selector < plan .dsegs
+pub reached : (plan : Plan) (permissions : List (List ℕ)) (n p selector : ℕ) → after n (flushChecks (reach plan permissions p selector)) ≡ 0 → rowOf selector < plan .dsegs
 unfolding flushChecks reach
 reached plan permissions n p selector e =
     let row = rowOf selector in

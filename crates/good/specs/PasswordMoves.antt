@@ -31,7 +31,7 @@ use Rattle.good.specs.StoreChanges.{passwords-differ, still-found, other
 
 -- ---- the checks
 
-none-before : (n : ℕ) (checks : List Check) → after n checks ≡ 0 → n ≡ 0
+pub none-before : (n : ℕ) (checks : List Check) → after n checks ≡ 0 → n ≡ 0
 none-before n checks e = go (eqb n 0) refl
   where
     go : (t : Bool) → eqb n 0 ≡ t → n ≡ 0
@@ -121,7 +121,7 @@ module _ (w : World) (g : Good w) (p : ℕ) (active : isActive (planOf w) p ≡ 
 
 -- ---- the call
 
-unchanged : (at n : ℕ) (l : List ℕ) → onPart at n (over (part at n l)) l ≡ l
+pub unchanged : (at n : ℕ) (l : List ℕ) → onPart at n (over (part at n l)) l ≡ l
 unchanged at n l = onPart-id at n (over (part at n l)) l (over-self (part at n l))
 
 module _ (w : World) (g : Good w) (p : ℕ) where
