@@ -1,7 +1,7 @@
 -- Login, who and logout leave a good world good.
-use mathlib.Core.Bool.{Bool, true, _&&_, and-eq-true-iff}
+use mathlib.Core.Bool.{true, and-eq-true-iff}
 use mathlib.Core.List.{List}
-use mathlib.Core.Path.{_≡_, refl, sym}
+use mathlib.Core.Path.{_≡_, refl}
 use Prim.Native.Nat.{ℕ}
 use Rattle.checks.specs.Settle.{by-settle}
 use Rattle.passwords.specs.PasswordFile.{sound, count}
@@ -13,7 +13,7 @@ use Rattle.accounts.specs.Users.{placed, readable}
 use Rattle.accounts.specs.Login.{login}
 use Rattle.accounts.specs.AccountLaws.{login-readable}
 use Rattle.terminal.specs.declared.Answer.{Answer}
-use Rattle.terminal.specs.Terminal.{Outcome, unmoved, recordOf, tableOf, fileOf, guardOf, tablesWrong}
+use Rattle.terminal.specs.Terminal.{unmoved, recordOf, tableOf, fileOf, guardOf, tablesWrong}
 use Rattle.terminal.specs.AccountCalls as accounts
 use Rattle.steps.specs.World.{World, Login, Who, Logout, fills, answers, step, withTerminal}
 use Rattle.good.specs.Good.{planOf, Good}

@@ -1,13 +1,12 @@
 -- The attention key's search ends at an active partition: eight looks go round, and the focus itself is active.
-use mathlib.Core.Bool.{Bool, true, false, _&&_, and-eq-true-iff}
+use mathlib.Core.Bool.{true, false, and-eq-true-iff, false≢true}
 use mathlib.Core.Logic.{_⊎_, inl, inr}
-use mathlib.Core.Path.{_≡_, refl, sym, subst, _∙_}
-use mathlib.Core.Bool.{false≢true}
+use mathlib.Core.Path.{_≡_, sym, _∙_}
 use Prim.Native.Nat.{ℕ, zero, suc, _+_, _-_, _≤_, _<_}
 use native.Mathlib.Nat.{not-suc-le-zero}
 use native.Mathlib.Omega.{arith}
 use borrow.Author.Tests.{ltb-true, ltb-false}
-use lib.Dec.{ltb, leb}
+use lib.Dec.{ltb}
 use Rattle.devices.specs.Choice.{by-cond}
 use Rattle.state.specs.declared.Plan.{Plan}
 use Rattle.state.specs.Parts.{isActive, seatAt}

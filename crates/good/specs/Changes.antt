@@ -1,7 +1,7 @@
 -- Kinds of change that leave a good world good: another state with good partitions, an active focus and users that have records; screens or arena of the same length.
 use mathlib.Core.Bool.{Bool, true, _&&_, and-eq-true-iff}
 use mathlib.Core.List.{List}
-use mathlib.Core.Path.{_≡_, refl, ap, sym, subst, _∙_}
+use mathlib.Core.Path.{_≡_, subst, _∙_}
 use Prim.Native.Nat.{ℕ}
 use lib.ListN.{length}
 use Rattle.passwords.specs.PasswordFile.{count}
@@ -15,7 +15,7 @@ use Rattle.guard.specs.Test.{allOf, goodPartition, goodPlan, good}
 use Rattle.accounts.specs.Users.{placed}
 use Rattle.terminal.specs.Terminal.{withState, withPartition, withRecord, partitionOf, recordOf, tableOf, fileOf}
 use Rattle.steps.specs.World.{World, withTerminal, withScreens, withArena}
-use Rattle.good.specs.Good.{planOf, Seated, Mapped, Good}
+use Rattle.good.specs.Good.{planOf, Good}
 use Rattle.good.specs.Partitions.{all-set, by-set, part-good, Follows}
 
 -- ---- the state test, in parts

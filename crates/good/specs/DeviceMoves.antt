@@ -1,13 +1,10 @@
 -- The device calls, the stopping calls and the events leave a good world good.
 use mathlib.Core.Bool.{Bool, true, _&&_, and-eq-true-iff}
 use mathlib.Core.List.{List, []}
-use mathlib.Core.Path.{_≡_, refl}
 use Prim.Native.Nat.{ℕ, _*_, _≤_}
 use lib.Dec.{leb}
-use lib.ListN.{length}
 use Rattle.checks.specs.Settle.{by-settle}
 use Rattle.devices.specs.Choice.{by-cond}
-use Rattle.state.specs.declared.Plan.{Plan}
 use Rattle.state.specs.declared.State.{State}
 use Rattle.state.specs.Parts.{isActive, partAt, withPart, withStop, withFault}
 use Rattle.guard.specs.Test.{allOf, goodCounts, goodSeat, goodSegment, goodPlan}
@@ -16,11 +13,11 @@ use Rattle.guard.specs.Events.{running, typed, key, attention, fault}
 use Rattle.console.specs.Console.{readNext, readRandom, writeNext, writeRandom}
 use Rattle.console.specs.ConsoleLaws.{length-writeNext, length-writeRandom, length-halt}
 use Rattle.console.specs.Halt.{halt}
-use Rattle.terminal.specs.Terminal.{Outcome, withState, withPartition, partitionOf, guardOf, differs}
+use Rattle.terminal.specs.Terminal.{Outcome, withState, withPartition, partitionOf}
 use Rattle.terminal.specs.DeviceCalls as devices
 use Rattle.terminal.specs.StopCalls as stops
 use Rattle.terminal.specs.Events as events
-use Rattle.steps.specs.World.{World, Move, ReadNext, ReadRandom, WriteNext, WriteRandom, Shutdown, Powerdown, Key, Attention, Fault, fills, answers, becomes, step, withTerminal, withScreens}
+use Rattle.steps.specs.World.{World, ReadNext, ReadRandom, WriteNext, WriteRandom, Shutdown, Powerdown, Key, Attention, Fault, fills, answers, becomes, step, withTerminal, withScreens}
 use Rattle.good.specs.Good.{planOf, Good}
 use Rattle.good.specs.Partitions.{readNext-follows, readRandom-follows, writeNext-follows, writeRandom-follows, halt-follows, typed-follows, fault-follows}
 use Rattle.good.specs.Changes.{test-plan, test-focus, good-screens, good-follows, seat-good, good-stop, good-focus}

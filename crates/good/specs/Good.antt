@@ -26,7 +26,7 @@ planOf w = w .terminal .plan
 pub record Seated (w : World) (p : ℕ) : Type 0 where
   -- its password file is the store's file of that path, at the kept place
   pub found : spot (passwordPath p) (w .store) ≡ At (seatAt (planOf w) p .file .place) (seatAt (planOf w) p .file .length)
-  -- "After every call the password table in memory and the file on the store say the same" (document 01, Set-password)
+  -- "After every call the password table in memory and the file on the store say the same" (document 00, demand 2)
   pub same : fileOf (w .terminal) p (w .store) ≡ tableOf (w .terminal) p (w .tables)
   -- the file is well formed
   pub formed : wellFormed (fileOf (w .terminal) p (w .store)) ≡ true

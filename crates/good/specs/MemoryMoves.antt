@@ -1,30 +1,27 @@
 -- Load, store, flush and configuration leave a good world good: a flush writes a mapped file, which is no password file.
-use mathlib.Core.Bool.{Bool, true, false, not, cond, and-eq-true-iff, false≢true}
-use mathlib.Core.List.{List, [], _∷_}
-use mathlib.Core.Path.{_≡_, refl, sym, ap, _∙_}
+use mathlib.Core.Bool.{Bool, true, false, not}
+use mathlib.Core.List.{List}
+use mathlib.Core.Path.{_≡_, refl}
 use Prim.Native.Nat.{ℕ, _<_}
 use native.Mathlib.Omega.{arith}
 use borrow.Author.Tests.{eqb-false, ltb-true, not-false}
 use lib.Dec.{eqb, ltb}
-use lib.ListN.{length, take}
 use Rattle.octets.specs.Lists.{over, onPart}
 use Rattle.octets.specs.WriteLaws.{length-over}
-use Rattle.image.specs.Image.{onFile}
 use Rattle.image.specs.SpotLaws.{onFile-at}
-use Rattle.checks.specs.Checks.{_when_, after}
+use Rattle.checks.specs.Checks.{after}
 use Rattle.checks.specs.Settle.{by-settle}
 use Rattle.checks.specs.Laws.{not-due, second-not-due}
 use Rattle.checks.specs.Told.{Told}
 use Rattle.state.specs.declared.Plan.{Plan}
 use Rattle.state.specs.Parts.{segmentAt}
-use Rattle.memory.specs.declared.Reach.{Reach}
-use Rattle.memory.specs.Rights.{rowOf, declared, permission, rightOf, reach}
-use Rattle.memory.specs.Memory.{bytesOf, flushChecks, flush}
+use Rattle.memory.specs.Rights.{rowOf, declared, rightOf, reach}
+use Rattle.memory.specs.Memory.{flushChecks, flush}
 use Rattle.memory.specs.MemoryLaws.{length-store}
-use Rattle.terminal.specs.Terminal.{unmoved, guardOf, differs}
+use Rattle.terminal.specs.Terminal.{unmoved}
 use Rattle.terminal.specs.MemoryCalls as memory
 use Rattle.steps.specs.World.{World, Load, Store, Flush, Configuration, fills, answers, step, withStore}
-use Rattle.good.specs.Good.{planOf, Mapped, Good}
+use Rattle.good.specs.Good.{planOf, Good}
 use Rattle.good.specs.Changes.{good-arena}
 use Rattle.good.specs.StoreChanges.{good-file}
 
@@ -70,7 +67,9 @@ module _ (w : World) (g : Good w) where
       → Good (withStore (onPart (segmentAt (planOf w) row .file .place) (segmentAt (planOf w) row .file .length) (over new) (w .store)) w)
   good-dseg row new h =
       let m = g .mapped row h in
-      rw (← onFile-at (w .store) (over new) (m .path) (segmentAt (planOf w) row .file .place) (segmentAt (planOf w) row .file .length) (m .found)) (good-file w g (m .path) (over new) (length-over new) (m .free))
+      let at = segmentAt (planOf w) row .file in
+      rw (← onFile-at (w .store) (over new) (m .path) (at .place) (at .length) (m .found))
+      (good-file w g (m .path) (over new) (length-over new) (m .free))
 
   pub good-flush : (p selector taken : ℕ) → Good (step w (Flush p selector taken) .world)
   unfolding step answers memory.flush unmoved flush reach

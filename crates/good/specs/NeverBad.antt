@@ -1,14 +1,13 @@
 -- No call in a good world answers 216, BAD_STATE.
-use mathlib.Core.Bool.{Bool, true, false, cond, _||_}
-use mathlib.Core.List.{List, [], _∷_}
-use mathlib.Core.Path.{_≡_, refl, sym, _∙_}
+use mathlib.Core.Bool.{Bool, false, cond}
+use mathlib.Core.List.{List, []}
+use mathlib.Core.Path.{_≡_, refl}
 use Prim.Native.Nat.{ℕ}
 use lib.Dec.{ltb}
 use lib.ListN.{length}
 use Rattle.octets.specs.Lists.{part}
 use Rattle.octets.specs.Same.{sameBytes}
 use Rattle.sha256.specs.Digest.{digest}
-use Rattle.checks.specs.Checks.{Check, _when_, after}
 use Rattle.checks.specs.Settle.{by-settle}
 use Rattle.checks.specs.Told.{Told}
 use Rattle.devices.specs.Choice.{by-cond}

@@ -1,14 +1,13 @@
 -- One partition of the state replaced: a good one by a good one leaves all good, and what the devices do to a partition leaves it good and its login
 -- record as it was.
-use mathlib.Core.Bool.{Bool, true, _&&_, and-eq-true-iff}
+use mathlib.Core.Bool.{Bool, true, and-eq-true-iff}
 use mathlib.Core.List.{List, [], _∷_, _++_}
 use mathlib.Core.Path.{_≡_, refl, ap}
 use Prim.Native.Nat.{ℕ, zero, suc, _≤_, _<_}
 use native.Mathlib.Omega.{arith}
 use borrow.Author.Tests.{ltb-true, leb-true, lt-ltb, le-leb}
 use lib.Dec.{ltb, leb}
-use lib.ListN.{getD, set, take, length}
-use Rattle.checks.specs.Checks.{after}
+use lib.ListN.{getD, set, take}
 use Rattle.checks.specs.Settle.{by-settle}
 use Rattle.devices.specs.declared.keyboard.Keyboard.{Keyboard}
 use Rattle.devices.specs.Choice.{by-cond}
@@ -21,8 +20,7 @@ use Rattle.state.specs.Empty.{noPartition}
 use Rattle.state.specs.Parts.{partAt, withKeyboard, withCursor, withFault}
 use Rattle.guard.specs.Test.{allOf, goodPartition}
 use Rattle.guard.specs.Events.{typed}
-use Rattle.console.specs.Console.{Outcome, refusal, keysTaken, readNext, cellsOf, cellsMoved, readRandom, writeRandom, written, Drawn, drawn, bytesPut, writeNext}
-use Rattle.console.specs.DeviceChecks.{deviceChecks}
+use Rattle.console.specs.Console.{Outcome, refusal, keysTaken, readNext, cellsOf, cellsMoved, readRandom, writeRandom, Drawn, drawn, bytesPut, writeNext}
 use Rattle.console.specs.Halt.{shownMessage, notice, halt}
 
 -- ---- lists

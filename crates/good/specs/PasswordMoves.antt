@@ -1,6 +1,6 @@
 -- Set-password leaves a good world good: file and table of the caller become the same new rows with the same users, and all else stays.
 use mathlib.Core.Bool.{Bool, true, false, not, _||_}
-use mathlib.Core.List.{List, [], _∷_}
+use mathlib.Core.List.{List, []}
 use mathlib.Core.Path.{_≡_, refl, sym, ap, subst, _∙_}
 use Prim.Native.Nat.{ℕ}
 use native.Mathlib.Omega.{arith}
@@ -13,13 +13,13 @@ use Rattle.octets.specs.OnPartLaws.{onPart-id, length-onPart, part-onPart-same,
 use Rattle.image.specs.Image.{onFile}
 use Rattle.image.specs.SpotLaws.{onFile-at}
 use Rattle.image.specs.ChangeLaws.{length-onFile, good-onFile}
-use Rattle.checks.specs.Checks.{Check, _when_, refused, after}
+use Rattle.checks.specs.Checks.{Check, after}
 use Rattle.checks.specs.Laws.{second-not-due}
 use Rattle.passwords.specs.SameLaws.{SameUsers, users-length, users-count, users-wellFormed}
 use Rattle.state.specs.declared.LoginRecord.{LoginRecord}
 use Rattle.state.specs.Parts.{isActive, seatAt}
 use Rattle.guard.specs.Guard.{guard}
-use Rattle.accounts.specs.SetPassword.{Changed, changed, setChecks, setPassword}
+use Rattle.accounts.specs.SetPassword.{setChecks, setPassword}
 use Rattle.accounts.specs.AccountLaws.{after-refused, set-refused, kept-together, users-kept}
 use Rattle.begin.specs.Files.{passwordPath}
 use Rattle.terminal.specs.declared.Terminal.{Terminal}

@@ -34,7 +34,7 @@ unfolding after
 plan-stays w [] = refl
 plan-stays w (m ∷ ms) = plan-stays (step w m .world) ms ∙ plan-step w m
 
--- "After every call the password table in memory and the file on the store say the same"
+-- "After every call the password table in memory and the file on the store say the same" (document 00, demand 2)
 pub together : (w : World) (ms : List Move) → Good w → (p : ℕ) → isActive (planOf w) p ≡ true
     → fileOf (after w ms .terminal) p (after w ms .store) ≡ tableOf (after w ms .terminal) p (after w ms .tables)
 together w ms g p a = good-run w ms g .seated p (rw (plan-stays w ms) a) .same

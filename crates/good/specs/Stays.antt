@@ -17,7 +17,7 @@ use Rattle.checks.specs.Settle.{by-settle}
 use Rattle.checks.specs.Told.{Told}
 use Rattle.devices.specs.Choice.{by-cond}
 use Rattle.state.specs.declared.LoginRecord.{LoginRecord}
-use Rattle.state.specs.Parts.{isActive, segmentAt, seatAt}
+use Rattle.state.specs.Parts.{isActive, seatAt}
 use Rattle.memory.specs.Rights.{rowOf, reach}
 use Rattle.memory.specs.Memory.{flush}
 use Rattle.accounts.specs.SetPassword.{setChecks, setPassword}
@@ -50,7 +50,9 @@ module _ (w : World) where
   off-plan p = by-settle SamePlan _ (λ e. refl) (λ e. refl)
 
 pub plan-step : (w : World) (m : Move) → planOf (step w m .world) ≡ planOf w
-unfolding step fills answers becomes devices.readNext devices.readRandom devices.writeNext devices.writeRandom devices.replied withPartition withState withRecord memory.load memory.store memory.flush memory.configuration unmoved accounts.login accounts.tried accounts.who accounts.logout accounts.setPassword accounts.replaced stops.powerdown events.key events.attention events.fault
+unfolding step fills answers becomes devices.readNext devices.readRandom devices.writeNext devices.writeRandom devices.replied withPartition withState withRecord
+    memory.load memory.store memory.flush memory.configuration unmoved
+    accounts.login accounts.tried accounts.who accounts.logout accounts.setPassword accounts.replaced stops.powerdown events.key events.attention events.fault
 plan-step w (ReadNext p major minor request buffer) = refl
 plan-step w (ReadRandom p major minor offset request buffer) = refl
 plan-step w (WriteNext p major minor request bytes) = refl

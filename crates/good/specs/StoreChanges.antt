@@ -1,12 +1,12 @@
 -- A change of one file of the store that keeps its length: where each file stands and every other file stay as they were, and a change of a file that is not
 -- a reserved one leaves a good world good.
 use mathlib.Core.Bool.{true, false, false≢true}
-use mathlib.Core.List.{List, [], _∷_}
+use mathlib.Core.List.{List}
 use mathlib.Core.Path.{_≡_, refl, sym, ap, _∙_}
 use Prim.Native.Nat.{ℕ, _+_}
 use native.Mathlib.Omega.{arith}
 use lib.ListN.{getD}
-use Rattle.octets.specs.Lists.{part, KeepsLength}
+use Rattle.octets.specs.Lists.{KeepsLength}
 use Rattle.octets.specs.Same.{sameBytes}
 use Rattle.image.specs.declared.Found.the-variants.{At}
 use Rattle.image.specs.Image.{spot, file, onFile}
