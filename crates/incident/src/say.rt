@@ -1,0 +1,1 @@
+../../workday/src/say.rt
