@@ -1,5 +1,5 @@
 -- The world that an accepted set-up begins with is a good one.
-use mathlib.Core.Bool.{Bool, true, false}
+use mathlib.Core.Bool.{Bool, true}
 use mathlib.Core.List.{List}
 use mathlib.Core.Logic.{inl, inr}
 use mathlib.Core.Path.{_≡_, refl, sym, ap, _∙_}
@@ -12,14 +12,11 @@ use Rattle.octets.specs.Lists.{part, over}
 use Rattle.octets.specs.PartLaws.{length-part-in}
 use Rattle.octets.specs.WriteLaws.{length-over}
 use Rattle.image.specs.Image.{spot, file}
-use Rattle.image.specs.Image.{good as goodImage}
 use Rattle.image.specs.SpotLaws.{spot-inside}
-use Rattle.passwords.specs.PasswordFile.{count}
 use Rattle.setup.specs.declared.Span.{Span}
 use Rattle.setup.specs.declared.Setup.{Setup}
 use Rattle.setup.specs.Setup.{noSpan, bytesOf}
 use Rattle.setup.specs.Setup.{isActive as activeOf, noSegment as undeclared}
-use Rattle.setup.specs.Rules.{badPartitions}
 use Rattle.setup.specs.Reading.{permissionTable}
 use Rattle.state.specs.declared.Kept.{Kept}
 use Rattle.state.specs.declared.Plan.{Plan}
@@ -30,25 +27,47 @@ use Rattle.accounts.specs.Users.{placed}
 use Rattle.begin.specs.Each.{joined}
 use Rattle.begin.specs.Files.{passwordPath, spanOf, dsegFiles, passwordFiles}
 use Rattle.begin.specs.FilesLaws.{found-bytes}
-use Rattle.begin.specs.Planned.{dsegOf, tableStart, planned, firstState}
+use Rattle.begin.specs.Planned.{pathOf, dsegOf, tableStart, planned, firstState}
 use Rattle.begin.specs.Filled.{fileBytes, tablesImage, arenaImage, cleared}
 use Rattle.begin.specs.Filled.{tableOf as bytesFor}
 use Rattle.begin.specs.FilledLaws.{length-cleared}
-use Rattle.begin.specs.Start.{noRoom, badPasswords}
 use Rattle.terminal.specs.declared.Terminal.{Terminal}
 use Rattle.terminal.specs.Terminal.{recordOf, partitionOf, tableOf, fileOf}
 use Rattle.steps.specs.World.{World}
 use Rattle.good.specs.Good.{Seated, Mapped, SpansApart, Good}
-use Rattle.started.specs.Accepted.{keptOf}
+use Rattle.started.specs.Accepted.{Accepted, keptOf}
 use Rattle.started.specs.SetUp.{SetUp}
 use Rattle.started.specs.Rows.{total-same, total-below, length-joined, below, part-joined, part-over}
+use Rattle.started.specs.Titles.{spot-behind, title-before}
 use Rattle.started.specs.Plan.{plan, active-eight, seat-active, seat-passive, plan-active, password-at, password-none, segment-at, dseg-at, file-found}
 use Rattle.started.specs.Tested.{tables-room, password-fits, password-spot, tested}
 
-module _ (soft : Bool) (text store arena tables screens : List ℕ) (count : ℕ) (active : List Bool) (s : Setup) (k : SetUp text store count active s)
-    (given : badPartitions count active ≡ false) (readable : badPasswords 8 s store ≡ false)
-    (space : noRoom s (dsegFiles s text store) (passwordFiles s store) (length arena) (length tables) (length screens) ≡ false)
-    (image : goodImage store ≡ true) where
+-- where a dseg's path is kept: it stands in the store right before the file
+pub record Titled (plan : Plan) (row : ℕ) (path store : List ℕ) : Type 0 where
+  -- as long as the path
+  pub long : segmentAt plan row .path .length ≡ length path
+  -- it ends where the file begins
+  pub ends : segmentAt plan row .path .place + segmentAt plan row .path .length ≡ segmentAt plan row .file .place
+  -- its bytes are the path
+  pub bytes : part (segmentAt plan row .path .place) (segmentAt plan row .path .length) store ≡ path
+
+-- the world that start leaves, with a plan and a set-up
+abbrev pub worldFrom : Plan → Setup → List ℕ → List ℕ → List ℕ → List ℕ → World
+worldFrom plan s store arena tables screens =
+    record {
+      terminal = record { plan = plan; state = firstState s };
+      permissions = permissionTable s;
+      store = store;
+      arena = over (arenaImage plan store) arena;
+      tables = over (tablesImage plan store) tables;
+      screens = cleared plan 8 screens;
+    }
+
+module _ (soft : Bool) (text store arena tables screens : List ℕ) (count : ℕ) (active : List Bool) (s : Setup)
+    (ok : Accepted text store arena tables screens count active s) where
+  abbrev k : SetUp text store count active s
+  k = ok .set-up
+
   abbrev files : List Span
   files = dsegFiles s text store
 
@@ -59,21 +78,13 @@ module _ (soft : Bool) (text store arena tables screens : List ℕ) (count : ℕ
   kept = keptOf store arena tables screens
 
   abbrev thePlan : Plan
-  thePlan = plan soft text store kept count active s k
+  thePlan = plan soft s text store kept
 
   abbrev terminal : Terminal
   terminal = record { plan = thePlan; state = firstState s }
 
-  abbrev pub world : World
-  world =
-      record {
-        terminal = terminal;
-        permissions = permissionTable s;
-        store = store;
-        arena = over (arenaImage thePlan store) arena;
-        tables = over (tablesImage thePlan store) tables;
-        screens = cleared thePlan 8 screens;
-      }
+  abbrev world : World
+  world = worldFrom thePlan s store arena tables screens
 
   -- ---- the password tables
 
@@ -88,7 +99,7 @@ module _ (soft : Bool) (text store arena tables screens : List ℕ) (count : ℕ
       (λ a.
       rw (seat-of p a .0)
       (length-part-in (getD passwords p noSpan .place) (getD passwords p noSpan .length) store
-      (spot-inside store (passwordPath p) _ _ (password-spot soft text store arena tables screens count active s k given readable space p a))))
+      (spot-inside store (passwordPath p) _ _ (password-spot soft text store arena tables screens count active s ok p a))))
       (λ a.
       rw (seat-passive soft text store kept count active s k p h a, password-none soft text store kept count active s k p h a)
       (length-part-in 0 0 store (omega arith)))
@@ -99,9 +110,9 @@ module _ (soft : Bool) (text store arena tables screens : List ℕ) (count : ℕ
       rw (length-joined (bytesFor thePlan store) p)
       (total-same (λ q. getD passwords q noSpan .length) (λ q. length (bytesFor thePlan store q)) p (λ q l. sym (as-long q (omega arith))))
 
-  bytes-at : (p : ℕ) → activeOf s p ≡ true → fileOf terminal p store ≡ bytesFor thePlan store p
+  bytes-at : (p : ℕ) → fileOf terminal p store ≡ bytesFor thePlan store p
   unfolding fileOf bytesFor fileBytes
-  bytes-at p a = refl
+  bytes-at p = refl
 
   -- a table is laid where its seat says
   table-at : (p : ℕ) → activeOf s p ≡ true → tableOf terminal p (world .tables) ≡ bytesFor thePlan store p
@@ -110,7 +121,7 @@ module _ (soft : Bool) (text store arena tables screens : List ℕ) (count : ℕ
       let f : ℕ → List ℕ = bytesFor thePlan store in
       let low = active-eight soft text store kept count active s k p a in
       let seat = seat-of p a in
-      let fits : length (joined f 8) ≤ length tables = rw (← start-joined 8 (omega arith)) (tables-room soft text store arena tables screens count active s k given readable space) in
+      let fits : length (joined f 8) ≤ length tables = rw (← start-joined 8 (omega arith)) (tables-room soft text store arena tables screens count active s ok) in
       rw (seat .1, seat .2, start-joined p (omega arith), ← as-long p low)
       (part-over (length (joined f p)) (length (f p)) (joined f 8) tables (below f 8 p low) fits ∙ part-joined f 8 p low)
 
@@ -141,9 +152,9 @@ module _ (soft : Bool) (text store arena tables screens : List ℕ) (count : ℕ
   seated p b =
       let a = in-setup p b in
       record {
-        found = rw (seat-of p a .0) (password-spot soft text store arena tables screens count active s k given readable space p a);
-        same = bytes-at p a ∙ sym (table-at p a);
-        formed = rw (file-bytes p a) (password-fits soft text store arena tables screens count active s k given readable space p a .1);
+        found = rw (seat-of p a .0) (password-spot soft text store arena tables screens count active s ok p a);
+        same = bytes-at p ∙ sym (table-at p a);
+        formed = rw (file-bytes p a) (password-fits soft text store arena tables screens count active s ok p a .1);
         user = rw (record-at p);
       }
 
@@ -153,13 +164,39 @@ module _ (soft : Bool) (text store arena tables screens : List ℕ) (count : ℕ
       let few = k .dsegs-few in
       rw (segment-at soft text store kept count active s k row (omega arith), dseg-at soft text store kept count active s k row h)
 
+  dseg-path : (row : ℕ) → row < s .dsegcount
+      → segmentAt thePlan row .path ≡ pathOf (getD files row noSpan) (getD (s .dsegs) row undeclared .path .length)
+  unfolding dsegOf
+  dseg-path row h =
+      let few = k .dsegs-few in
+      rw (segment-at soft text store kept count active s k row (omega arith), dseg-at soft text store kept count active s k row h)
+
+  abbrev pathAt : ℕ → List ℕ
+  pathAt row = bytesOf text (getD (s .dsegs) row undeclared .path)
+
+  titled : (row : ℕ) → row < s .dsegcount → Titled thePlan row (pathAt row) store
+  unfolding pathOf
+  titled row h =
+      let found = file-found soft text store kept count active s k row h in
+      let low = spot-behind (pathAt row) store _ _ found in
+      let e = k .declared row h .long in
+      record {
+        long = rw (dseg-path row h) (sym e);
+        ends = rw (dseg-path row h, dseg-file row h) (omega arith);
+        bytes = rw (dseg-path row h, ← e) (title-before (pathAt row) store _ _ found);
+      }
+
   mapped : (row : ℕ) → row < s .dsegcount → Mapped world row
   mapped row h =
       record {
-        path = bytesOf text (getD (s .dsegs) row undeclared .path);
+        path = pathAt row;
         free = k .declared row h .free;
         found = rw (dseg-file row h) (file-found soft text store kept count active s k row h);
       }
+
+  pub mapped-titled : (row : ℕ) → row < s .dsegcount → (m : Mapped world row) × Titled thePlan row (m .path) store
+  unfolding mapped
+  mapped-titled row h = (mapped row h, titled row h)
 
   -- ---- tables share no byte
 
@@ -185,12 +222,12 @@ module _ (soft : Bool) (text store arena tables screens : List ℕ) (count : ℕ
   unfolding planned
   world-good =
       record {
-        tested = tested soft text store arena tables screens count active s k given readable space;
+        tested = tested soft text store arena tables screens count active s ok;
         store-long = refl;
         arena-long = length-over (arenaImage thePlan store) arena;
         tables-long = length-over (tablesImage thePlan store) tables;
         screens-long = length-cleared thePlan 8 screens;
-        image = image;
+        image = ok .image;
         seated = seated;
         mapped = mapped;
         tables-apart = apart;

@@ -1,7 +1,8 @@
 -- An accepted start gives a good world.
-pub mod Accepted
 pub mod SetUp
+pub mod Accepted
 pub mod Rows
+pub mod Titles
 pub mod Plan
 pub mod Tested
 pub mod FirstWorld

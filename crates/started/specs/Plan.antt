@@ -1,23 +1,19 @@
 -- The plan of an accepted set-up: who is active, and where files, tables and segments stand.
-use mathlib.Core.Bool.{Bool, true, false, _&&_, _||_, and-false, and-eq-true-iff, false≢true}
-use mathlib.Core.List.{List, [], _∷_}
-use mathlib.Core.Path.{_≡_, refl, sym, _∙_}
-use Prim.Native.Nat.{ℕ, zero, suc, _+_, _≤_, _<_}
+use mathlib.Core.Bool.{Bool, true, false, _&&_, and-false, and-eq-true-iff, false≢true}
+use mathlib.Core.List.{List}
+use mathlib.Core.Path.{_≡_, refl}
+use Prim.Native.Nat.{ℕ, zero, suc, _≤_, _<_}
 use native.Mathlib.Decide.{decLe}
 use native.Mathlib.Nat.{not-suc-le-zero}
 use native.Mathlib.Omega.{arith}
 use borrow.Author.Tests.{ltb-true, lt-ltb, le-ltb}
 use lib.Dec.{ltb}
 use lib.ListN.{length, getD}
-use Rattle.rows.specs.Records.{chunks}
 use Rattle.rows.specs.LikeLaws.{by-test}
-use Rattle.rows.specs.StepLaws.{clash}
-use Rattle.octets.specs.PartLaws.{length-part}
 use Rattle.image.specs.declared.Found.{Found}
 use Rattle.image.specs.declared.Found.the-variants.{At, Nothing}
-use Rattle.image.specs.Files.{pathLength, path, contentsAt, named, spotIn}
+use Rattle.image.specs.Files.{path}
 use Rattle.image.specs.Image.{spot, file, wasFound}
-use Rattle.image.specs.PlaceLaws.{named-path, spot-none, spot-hit, spot-miss}
 use Rattle.setup.specs.declared.Span.{Span}
 use Rattle.setup.specs.declared.Setup.{Setup}
 use Rattle.setup.specs.Setup.{noSpan, span, bytesOf}
@@ -30,6 +26,7 @@ use Rattle.begin.specs.EachLaws.{getD-firsts}
 use Rattle.begin.specs.Files.{passwordPath, spanOf, dsegFile, dsegFiles, passwordFile, passwordFiles}
 use Rattle.begin.specs.Planned.{dsegOf, segmentOf, tableStart, seatOf, planned}
 use Rattle.begin.specs.Start.{badFile, badPasswords}
+use Rattle.started.specs.Accepted.{neither}
 use Rattle.started.specs.SetUp.{SetUp}
 
 -- ---- files that were found
@@ -40,57 +37,28 @@ unfolding wasFound spanOf
 found-span (At a n) e = refl
 found-span Nothing e = absurd (false≢true e)
 
-path-long : (c : List ℕ) → length (path c) ≤ pathLength c
-unfolding path
-path-long c = rw length-part (omega arith)
-
-contents-behind : (c : List ℕ) → contentsAt c ≡ 7 + pathLength c
-unfolding contentsAt
-contents-behind c = refl
-
--- the header and the path stand before the contents
-behind-path : (p : List ℕ) (at : ℕ) (cs : List (List ℕ)) (a n : ℕ) → spotIn p at cs ≡ At a n → at + 7 + length p ≤ a
-behind-path p at [] a n h = clash (cc (spot-none p at))
-behind-path p at (c ∷ cs) a n h =
-    by-test (named p c) hit
-    (λ e. let r = behind-path p (at + length c) cs a n (sym (spot-miss p at c cs e) ∙ h) in omega arith)
-  where
-    hit : named p c ≡ true → at + 7 + length p ≤ a
-    hit e =
-        let s = spot-hit p at c cs e in
-        let place : a ≡ at + contentsAt c = cc in
-        let long : length p ≤ pathLength c = rw (← named-path p c e) (path-long c) in
-        let there = contents-behind c in
-        omega arith
-
-pub spot-behind : (p store : List ℕ) (a n : ℕ) → spot p store ≡ At a n → 7 + length p ≤ a
-unfolding spot
-spot-behind p store a n h = behind-path p 0 (chunks store) a n h
-
 -- no bad password file among the first n
 pub password-good : (n p : ℕ) (s : Setup) (store : List ℕ) → badPasswords n s store ≡ false → p < n → activeOf s p ≡ true → badFile (passwordPath p) store ≡ false
 unfolding badPasswords
 password-good zero p s store e h a = absurd (not-suc-le-zero h)
-password-good (suc n) p s store e h a = go (password-good n p s store (second (activeOf s n && badFile (passwordPath n) store) (badPasswords n s store) e)) (decLe n p)
+password-good (suc n) p s store e h a =
+    let both = neither (activeOf s n && badFile (passwordPath n) store) (badPasswords n s store) e in
+    go (both .0) (password-good n p s store (both .1)) (decLe n p)
   where
-    first : (x y : Bool) → (x || y) ≡ false → x ≡ false
-    first true y k = absurd (false≢true (sym k))
-    first false y k = refl
+    good-one : (x y : Bool) → (x && y) ≡ false → x ≡ true → y ≡ false
+    good-one true y f t = f
+    good-one false y f t = absurd (false≢true t)
 
-    second : (x y : Bool) → (x || y) ≡ false → y ≡ false
-    second true y k = absurd (false≢true (sym k))
-    second false y k = k
-
-    one : (x y : Bool) → (x && y) ≡ false → x ≡ true → y ≡ false
-    one true y k h = k
-    one false y k h = absurd (false≢true h)
-
-    go : (p < n → activeOf s p ≡ true → badFile (passwordPath p) store ≡ false) → Dec (n ≤ p) → badFile (passwordPath p) store ≡ false
-    go rest (yes k) =
+    go : (activeOf s n && badFile (passwordPath n) store) ≡ false → (p < n → activeOf s p ≡ true → badFile (passwordPath p) store ≡ false) → Dec (n ≤ p)
+        → badFile (passwordPath p) store ≡ false
+    go last rest (yes k) =
         let same : n ≡ p = omega arith in
-        let f = first (activeOf s n && badFile (passwordPath n) store) (badPasswords n s store) e in
-        one (activeOf s p) (badFile (passwordPath p) store) (rw same at f) a
-    go rest (no k) = rest (omega arith) a
+        good-one (activeOf s p) (badFile (passwordPath p) store) (rw same at last) a
+    go last rest (no k) = rest (omega arith) a
+
+-- what start fixes
+abbrev pub plan : Bool → Setup → List ℕ → List ℕ → Kept → Plan
+plan soft s text store kept = planned soft s (dsegFiles s text store) (passwordFiles s store) kept
 
 module _ (soft : Bool) (text store : List ℕ) (kept : Kept) (count : ℕ) (active : List Bool) (s : Setup) (k : SetUp text store count active s) where
   abbrev files : List Span
@@ -99,8 +67,8 @@ module _ (soft : Bool) (text store : List ℕ) (kept : Kept) (count : ℕ) (acti
   abbrev passwords : List Span
   passwords = passwordFiles s store
 
-  abbrev pub plan : Plan
-  plan = planned soft s files passwords kept
+  abbrev thePlan : Plan
+  thePlan = plan soft s text store kept
 
   few : s .partitions ≤ 8
   few = let e = k .partitions in omega arith
@@ -114,28 +82,28 @@ module _ (soft : Bool) (text store : List ℕ) (kept : Kept) (count : ℕ) (acti
   pub active-eight : (p : ℕ) → activeOf s p ≡ true → p < 8
   active-eight p a = let h = active-low p a in let f = few in omega arith
 
-  pub seat-at : (p : ℕ) → p < 8 → seatAt plan p ≡ seatOf s passwords p
+  pub seat-at : (p : ℕ) → p < 8 → seatAt thePlan p ≡ seatOf s passwords p
   unfolding seatAt planned
   seat-at p h = getD-firsts (seatOf s passwords) 8 p noSeat h
 
   pub seat-active : (p : ℕ) → activeOf s p ≡ true
-      → seatAt plan p ≡ record { active = true; table = span (tableStart passwords p) (getD passwords p noSpan .length); file = getD passwords p noSpan }
+      → seatAt thePlan p ≡ record { active = true; table = span (tableStart passwords p) (getD passwords p noSpan .length); file = getD passwords p noSpan }
   unfolding seatOf
   seat-active p a = rw (seat-at p (active-eight p a), a)
 
-  pub seat-passive : (p : ℕ) → p < 8 → activeOf s p ≡ false → seatAt plan p ≡ noSeat
+  pub seat-passive : (p : ℕ) → p < 8 → activeOf s p ≡ false → seatAt thePlan p ≡ noSeat
   unfolding seatOf
   seat-passive p h a = rw (seat-at p h, a)
 
   -- who is active in the plan was active in the set-up
-  pub plan-active : (p : ℕ) → isActive plan p ≡ activeOf s p
+  pub plan-active : (p : ℕ) → isActive thePlan p ≡ activeOf s p
   unfolding isActive planned
   plan-active p = by-test (activeOf s p) is-active (λ a. not-active a (decLe 8 p))
     where
-      is-active : activeOf s p ≡ true → (ltb p (s .partitions) && seatAt plan p .active) ≡ activeOf s p
+      is-active : activeOf s p ≡ true → (ltb p (s .partitions) && seatAt thePlan p .active) ≡ activeOf s p
       is-active a = rw (a, lt-ltb p (s .partitions) (active-low p a), seat-active p a)
 
-      not-active : activeOf s p ≡ false → Dec (8 ≤ p) → (ltb p (s .partitions) && seatAt plan p .active) ≡ activeOf s p
+      not-active : activeOf s p ≡ false → Dec (8 ≤ p) → (ltb p (s .partitions) && seatAt thePlan p .active) ≡ activeOf s p
       not-active a (yes h) = let f = few in rw (a, le-ltb p (s .partitions) (omega arith))
       not-active a (no h) = rw (a, seat-passive p (omega arith) a) (and-false (ltb p (s .partitions)))
 
@@ -152,7 +120,7 @@ module _ (soft : Bool) (text store : List ℕ) (kept : Kept) (count : ℕ) (acti
   abbrev pathAt : ℕ → List ℕ
   pathAt row = bytesOf text (getD (s .dsegs) row undeclared .path)
 
-  pub segment-at : (row : ℕ) → row < 32 → segmentAt plan row ≡ segmentOf s files row
+  pub segment-at : (row : ℕ) → row < 32 → segmentAt thePlan row ≡ segmentOf s files row
   unfolding segmentAt planned
   segment-at row h = getD-firsts (segmentOf s files) 32 row noSegment h
 

@@ -20,7 +20,7 @@ use Rattle.setup.specs.declared.Span.{Span}
 use Rattle.setup.specs.declared.Setup.{Setup}
 use Rattle.setup.specs.Setup.{noSpan, span, bytesOf, begun}
 use Rattle.setup.specs.Setup.{isActive as activeOf, noSegment as undeclared}
-use Rattle.setup.specs.Rules.{someActive, badPartitions}
+use Rattle.setup.specs.Rules.{someActive}
 use Rattle.state.specs.declared.Kept.{Kept}
 use Rattle.state.specs.declared.Segment.{Segment}
 use Rattle.state.specs.declared.Plan.{Plan}
@@ -29,11 +29,12 @@ use Rattle.state.specs.Parts.{isActive}
 use Rattle.guard.specs.Test.{allOf, inside, goodSegment, goodSeat, goodPartition, goodCounts, goodPlan, good}
 use Rattle.begin.specs.Files.{passwordPath, dsegFiles, passwordFiles}
 use Rattle.begin.specs.Planned.{pathOf, sizeOf, startOf, dsegOf, msegOf, segmentOf, tableStart, seatOf, planned, lowest, firstState}
-use Rattle.begin.specs.Start.{noRoom, badFile, badPasswords}
-use Rattle.started.specs.Accepted.{neither, keptOf}
+use Rattle.begin.specs.Start.{noRoom, badFile}
+use Rattle.started.specs.Accepted.{Accepted, neither, keptOf}
 use Rattle.started.specs.SetUp.{SetUp}
 use Rattle.started.specs.Rows.{all-firsts, total-below}
-use Rattle.started.specs.Plan.{plan, spot-behind, password-good, found-span, active-eight, plan-active, password-at, file-found}
+use Rattle.started.specs.Titles.{spot-behind}
+use Rattle.started.specs.Plan.{plan, password-good, found-span, active-eight, plan-active, password-at, file-found}
 
 -- a span inside an area
 is-inside : (x : Span) (area : ℕ) → x .place + x .length ≤ area → inside x area ≡ true
@@ -82,9 +83,11 @@ flag-kept count active q h e = go (decLe (length active) q)
         let low : q < length (take (min count 8) active) = rw length-take (omega arith) in
         List·getD-append (take (min count 8) active) (replicate (8 - min count 8) false) false q low ∙ getD-take (min count 8) active q false h ∙ e
 
-module _ (soft : Bool) (text store arena tables screens : List ℕ) (count : ℕ) (active : List Bool) (s : Setup) (k : SetUp text store count active s)
-    (given : badPartitions count active ≡ false) (readable : badPasswords 8 s store ≡ false)
-    (space : noRoom s (dsegFiles s text store) (passwordFiles s store) (length arena) (length tables) (length screens) ≡ false) where
+module _ (soft : Bool) (text store arena tables screens : List ℕ) (count : ℕ) (active : List Bool) (s : Setup)
+    (ok : Accepted text store arena tables screens count active s) where
+  abbrev k : SetUp text store count active s
+  k = ok .set-up
+
   abbrev files : List Span
   files = dsegFiles s text store
 
@@ -95,20 +98,20 @@ module _ (soft : Bool) (text store arena tables screens : List ℕ) (count : ℕ
   kept = keptOf store arena tables screens
 
   abbrev thePlan : Plan
-  thePlan = plan soft text store kept count active s k
+  thePlan = plan soft s text store kept
 
   -- ---- what was given, and the room
 
   some-count : (1 ≤ count) × (count ≤ 8)
   some-count =
-      let both = not-false (leb 1 count && leb count 8) (neither (not (leb 1 count && leb count 8)) (not (someActive count active)) given .0) in
+      let both = not-false (leb 1 count && leb count 8) (neither (not (leb 1 count && leb count 8)) (not (someActive count active)) (ok .given) .0) in
       let each = and-eq-true-iff (leb 1 count) (leb count 8) .0 both in
       (leb-true 1 count (each .0), leb-true count 8 (each .1))
 
   one-active : (q : ℕ) × (activeOf s q ≡ true)
   unfolding activeOf
   one-active =
-      let f = some-flag count active (not-false (someActive count active) (neither (not (leb 1 count && leb count 8)) (not (someActive count active)) given .1)) in
+      let f = some-flag count active (not-false (someActive count active) (neither (not (leb 1 count && leb count 8)) (not (someActive count active)) (ok .given) .1)) in
       let e = k .partitions in
       let c = some-count in
       let low : f .0 < min count 8 = let h = f .1 in omega arith in
@@ -125,22 +128,22 @@ module _ (soft : Bool) (text store arena tables screens : List ℕ) (count : ℕ
 
   arena-room : startOf s files 32 ≤ length arena
   unfolding noRoom
-  arena-room = ltb-false (length arena) (startOf s files 32) (neither too-big (too-long || too-many) space .0)
+  arena-room = ltb-false (length arena) (startOf s files 32) (neither too-big (too-long || too-many) (ok .space) .0)
 
   pub tables-room : tableStart passwords 8 ≤ length tables
   unfolding noRoom
-  tables-room = ltb-false (length tables) (tableStart passwords 8) (neither too-long too-many (neither too-big (too-long || too-many) space .1) .0)
+  tables-room = ltb-false (length tables) (tableStart passwords 8) (neither too-long too-many (neither too-big (too-long || too-many) (ok .space) .1) .0)
 
   screens-room : 2000 * s .partitions ≤ length screens
   unfolding noRoom
-  screens-room = ltb-false (length screens) (2000 * s .partitions) (neither too-long too-many (neither too-big (too-long || too-many) space .1) .1)
+  screens-room = ltb-false (length screens) (2000 * s .partitions) (neither too-long too-many (neither too-big (too-long || too-many) (ok .space) .1) .1)
 
   -- ---- password files
 
   pub password-fits : (p : ℕ) → activeOf s p ≡ true → (wasFound (spot (passwordPath p) store) ≡ true) × (wellFormed (file (passwordPath p) store) ≡ true)
   unfolding badFile
   password-fits p a =
-      let b = password-good 8 p s store readable (active-eight soft text store kept count active s k p a) a in
+      let b = password-good 8 p s store (ok .readable) (active-eight soft text store kept count active s k p a) a in
       let both = neither (not (wasFound (spot (passwordPath p) store))) (not (wellFormed (file (passwordPath p) store))) b in
       (not-false (wasFound (spot (passwordPath p) store)) (both .0), not-false (wellFormed (file (passwordPath p) store)) (both .1))
 
