@@ -58,6 +58,7 @@ module _ (t : Terminal) (count : ℕ) (active : List Bool) (soft : Bool) (text s
   abbrev afterwards : World
   afterwards = worldOf (start t count active soft text store arena tables screens permissions) store
 
+  -- an accepted start gives a good world
   pub start-good : start t count active soft text store arena tables screens permissions .started .number ≡ 0 → Good afterwards
   unfolding start begunFrom
   start-good z = by-world Good z (λ s ok. world-good soft text store arena tables screens count active s ok)
@@ -70,11 +71,11 @@ module _ (t : Terminal) (count : ℕ) (active : List Bool) (soft : Bool) (text s
       by-world (λ (w : World). (row : ℕ) → row < w .terminal .plan .dsegs → (m : Mapped w row) × Titled (w .terminal .plan) row (m .path) store) z
       (λ s ok. mapped-titled soft text store arena tables screens count active s ok)
 
-  -- "A refused start changes no lent byte and hands back the state given."
   refused-same : (n line : ℕ) → (n ≡ 0 → ⊥) → worldOf (begunFrom t (beginning (refused n line) arena tables screens permissions)) store ≡ before
   unfolding worldOf begunFrom settle
   refused-same n line z = rw (ne-eqb n 0 z)
 
+  -- "A refused start changes no lent byte and hands back the state given."
   pub start-refused : (start t count active soft text store arena tables screens permissions .started .number ≡ 0 → ⊥) → afterwards ≡ before
   unfolding start begin carriedOut begunFrom filled
   start-refused =
