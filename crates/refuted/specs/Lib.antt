@@ -2,3 +2,7 @@
 pub mod Build
 pub mod Room
 pub mod EmptyBuilds
+pub mod Alike
+pub mod Logins
+pub mod Leaks
+pub mod NotEmpty
