@@ -112,7 +112,7 @@ obeysOnce w (m ∷ ms) = step w m ∷ map (idles (step w m .world)) ms
 abbrev pub ObeysOnce : (World → List Move → List Result) → Type 0
 ObeysOnce build = (w : World) (m n : Move) → map (λ (r : Result). r .world) (build w (m ∷ n ∷ [])) ≡ step w m .world ∷ step w m .world ∷ []
 
--- the terminal runs on after the last of these results
+-- the terminal is stopped in the last of these worlds
 unfoldable stoppedAt : List World → Bool
 stoppedAt [] = false
 stoppedAt (w ∷ []) = w .terminal .state .stopped

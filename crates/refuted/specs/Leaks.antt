@@ -20,9 +20,9 @@ use Rattle.state.specs.declared.Login.the-variants.{Nobody, User}
 use Rattle.accounts.specs.Strings.{stringOf}
 use Rattle.accounts.specs.Users.{isUser, userName}
 use Rattle.terminal.specs.Terminal.{recordOf, tableOf}
-use Rattle.steps.specs.World.{World, Move, Result, becomes, step}
+use Rattle.steps.specs.World.{World, Move, Result, becomes, step, after}
 use Rattle.steps.specs.World.Move.{Login, Shutdown, Attention}
-use Rattle.refuted.specs.Build.{Build, afterBy, saveLogin, saveShutdown, saveAttention, saving}
+use Rattle.refuted.specs.Build.{Build, Meets, afterBy, saveLogin, saveShutdown, saveAttention, saving}
 use Rattle.refuted.specs.Room.{room, sevens, ab}
 use Rattle.refuted.specs.Alike.{Alike, blankedAt}
 use Rattle.refuted.specs.Logins.{result, abcText, abcDigest, openedLogins, abc-right, sevens-wrong}
@@ -108,7 +108,7 @@ pub record FocusLeaks : Type 0 where
   pub alike : Alike 0 (room Nobody abcDigest) (room Nobody sevens)
   pub focus : focusOf (afterBy stepLeakingFocus (room Nobody abcDigest) (enter ∷ Attention ∷ [])) ≢ focusOf (afterBy stepLeakingFocus (room Nobody sevens) (enter ∷ Attention ∷ []))
   -- the definitions give both the same focus
-  pub defined : focusOf (afterBy step (room Nobody abcDigest) (enter ∷ Attention ∷ [])) ≡ focusOf (afterBy step (room Nobody sevens) (enter ∷ Attention ∷ []))
+  pub defined : focusOf (after (room Nobody abcDigest) (enter ∷ Attention ∷ [])) ≡ focusOf (after (room Nobody sevens) (enter ∷ Attention ∷ []))
 
 abc-sevens : Alike 0 (room Nobody abcDigest) (room Nobody sevens)
 unfolding openedLogins blankedAt
@@ -128,7 +128,7 @@ unfolding openedLogins
 moves-both = refl
 
 pub focus-leaks : FocusLeaks
-unfolding afterBy stepLeakingFocus saving
+unfolding afterBy after stepLeakingFocus saving
 focus-leaks =
     record {
       alike = abc-sevens;
@@ -158,7 +158,7 @@ pub record TextLeaks : Type 0 where
   pub alike : Alike 0 (room Nobody abcDigest) (room Nobody sevens)
   pub screens : afterBy stepLeakingText (room Nobody abcDigest) (enter ∷ halting ∷ []) .screens ≢ afterBy stepLeakingText (room Nobody sevens) (enter ∷ halting ∷ []) .screens
   -- the definitions give both the same screens
-  pub defined : afterBy step (room Nobody abcDigest) (enter ∷ halting ∷ []) .screens ≡ afterBy step (room Nobody sevens) (enter ∷ halting ∷ []) .screens
+  pub defined : after (room Nobody abcDigest) (enter ∷ halting ∷ []) .screens ≡ after (room Nobody sevens) (enter ∷ halting ∷ []) .screens
 
 -- the first cell of partition 0's screen
 abbrev corner : List ℕ → ℕ
@@ -177,7 +177,7 @@ unfolding openedLogins
 halted-both = refl
 
 pub text-leaks : TextLeaks
-unfolding afterBy stepLeakingText saving
+unfolding afterBy after stepLeakingText saving
 text-leaks =
     record {
       alike = abc-sevens;
@@ -190,3 +190,26 @@ text-leaks =
           ap (λ (r : Result). step (r .world) halting .world .screens) abc-right ∙ halted-both
           ∙ sym (ap (λ (r : Result). step (r .world) halting .world .screens) sevens-wrong);
     }
+
+-- ---- a build that meets the definitions has none of the three
+
+after-meets : (build : Build) → Meets build → (w : World) (ms : List Move) → afterBy build w ms ≡ after w ms
+unfolding afterBy after
+after-meets build meets w [] = refl
+after-meets build meets w (m ∷ ms) = after-meets build meets (build w m .world) ms ∙ ap (λ (r : Result). after (r .world) ms) (meets w m)
+
+pub count-refuted : Meets stepLeakingCount → ⊥
+count-refuted meets =
+    count-leaks .counts (ap (λ (r : Result). r .count) (meets _ enter) ∙ count-leaks .defined ∙ ap (λ (r : Result). r .count) (sym (meets _ enter)))
+
+pub focus-refuted : Meets stepLeakingFocus → ⊥
+focus-refuted meets =
+    focus-leaks .focus
+    (ap focusOf (after-meets stepLeakingFocus meets _ (enter ∷ Attention ∷ [])) ∙ focus-leaks .defined
+    ∙ sym (ap focusOf (after-meets stepLeakingFocus meets _ (enter ∷ Attention ∷ []))))
+
+pub text-refuted : Meets stepLeakingText → ⊥
+text-refuted meets =
+    text-leaks .screens
+    (ap (λ (w : World). w .screens) (after-meets stepLeakingText meets _ (enter ∷ halting ∷ [])) ∙ text-leaks .defined
+    ∙ sym (ap (λ (w : World). w .screens) (after-meets stepLeakingText meets _ (enter ∷ halting ∷ []))))

@@ -4,10 +4,6 @@ use mathlib.Core.Bool.{true, false}
 use mathlib.Core.List.{List, [], _∷_, _++_}
 use Prim.Native.Nat.{ℕ}
 use lib.ListN.{replicate}
-use Rattle.octets.specs.Lists.{onNth}
-use Rattle.bytes.specs.Bytes.{indexOf, indexAfter}
-use Rattle.checks.specs.Checks.{refused, after}
-use Rattle.checks.specs.Settle.{settle}
 use Rattle.devices.specs.Queue.{noKeys}
 use Rattle.devices.specs.Screen.{blanks}
 use Rattle.setup.specs.Setup.{span, noSpan}
@@ -18,10 +14,9 @@ use Rattle.console_examples.specs.Opened as console
 use Rattle.passwords_examples.specs.Examples.{entry, account}
 use Rattle.passwords_examples.specs.Examples as passwords
 use Rattle.state.specs.declared.Login.{Login}
-use Rattle.state.specs.declared.Login.the-variants.{Nobody, User}
 use Rattle.state.specs.declared.Plan.{Plan}
 use Rattle.state.specs.declared.State.{State}
-use Rattle.state.specs.Empty.{nobody, noSeat, noSegment, noPartition}
+use Rattle.state.specs.Empty.{noSeat, noSegment, noPartition}
 use Rattle.state.specs.Parts.{segmentAt, seatAt, isActive, withLogin, partAt, withPart, withFocus, withStop}
 use Rattle.guard.specs.Test.{allOf, inside, goodSegment, goodSeat, goodPartition, goodCounts, goodPlan, good}
 use Rattle.guard.specs.Guard.{guard}
@@ -90,5 +85,5 @@ x = 120 ∷ 0 ∷ []
 
 -- a name that opens, on an `unfolding` line, all that these worlds and the moves made in them are defined by, save the digest
 unfoldable pub opened : ℕ
-unfolding console.opened passwords.opened onNth indexOf indexAfter refused after settle bytesOf zeros lengthField padding.ending padded blocks segmentAt seatAt isActive withLogin partAt withPart withFocus withStop allOf inside goodSegment goodSeat goodPartition goodCounts goodPlan good guard running behind seek events.attention ending isString stringOf isUser placeOf placed readable userName tried loginChecks logins.login fileImage onStore inMemory written setChecks passwordCalls.setPassword withState withPartition partitionOf recordOf withRecord tableOf fileOf guardOf differs tablesWrong accountCalls.tried accountCalls.login accountCalls.logout accountCalls.setPassword accountCalls.replaced stops.stopped stops.shutdown terminalEvents.attention answers becomes step run accounts plan stateOf room sevens ab x
+unfolding console.opened passwords.opened bytesOf zeros lengthField padding.ending padded blocks segmentAt seatAt isActive withLogin partAt withPart withFocus withStop allOf inside goodSegment goodSeat goodPartition goodCounts goodPlan good guard running behind seek events.attention ending isString stringOf isUser placeOf placed readable userName tried loginChecks logins.login fileImage onStore inMemory written setChecks passwordCalls.setPassword withState withPartition partitionOf recordOf withRecord tableOf fileOf guardOf differs tablesWrong accountCalls.tried accountCalls.login accountCalls.logout accountCalls.setPassword accountCalls.replaced stops.stopped stops.shutdown terminalEvents.attention answers becomes step run accounts plan stateOf room sevens ab x
 opened = 0
