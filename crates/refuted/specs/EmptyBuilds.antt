@@ -1,6 +1,6 @@
 -- Document 01, "What each call must commit to": "Four empty builds have to be rejected: one answering 212 to everything, one logging everyone in, one that changes
--- nothing, one that obeys only its first call. .. Demand 2 also shuts out a made-up work count". Each of the five differs from the definitions in one short run,
--- and so does every other build that shares its fault.
+-- nothing, one that obeys only its first call. .. Demand 2 also shuts out a made-up work count". Each of the five differs from the definitions in a run of one or
+-- two moves, and so does every other build that shares its fault.
 use mathlib.Core.Bool.{Bool, true, false, false≢true}
 use mathlib.Core.List.{List, [], _∷_, map}
 use mathlib.Core.Path.{_≡_, refl, sym, ap, _∙_}
@@ -16,7 +16,7 @@ use Rattle.steps.specs.World.Move.{Login, Logout, Shutdown}
 use Rattle.refuted.specs.Build.{Build, Meets, MeetsRuns, saveLogin, saving}
 use Rattle.refuted.specs.Room.{room, sevens, x, opened}
 
--- the world of the runs: nobody is logged in; the first account is
+-- the worlds of the runs: nobody is logged in; "ab" is logged in at partition 0
 abbrev fresh : World
 fresh = room Nobody sevens
 

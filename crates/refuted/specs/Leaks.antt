@@ -44,13 +44,13 @@ unfoldable pub digestFound : List ℕ → Lookup → List ℕ
 digestFound table (Nowhere count) = []
 digestFound table (At i place count) = part place digestLength table
 
--- at a refused login, the count also tells how many bytes were compared before one differed
+-- at AUTH_FAILURE, the count also tells how many bytes of the two digests were found the same before one differed
 unfoldable pub stepLeakingCount : Build
 stepLeakingCount = saveLogin (λ w p name password.
     let r = step w (Login p name password) in
     let table = tableOf (w .terminal) p (w .tables) in
-    let compared = sameFirst (digest (stringOf password)) (digestFound table (find (stringOf name) table)) in
-    record { number = r .number; count = cond (eqb (r .number) 300) (r .count + compared) (r .count); buffer = r .buffer; world = r .world })
+    let agreeing = sameFirst (digest (stringOf password)) (digestFound table (find (stringOf name) table)) in
+    record { number = r .number; count = cond (eqb (r .number) 300) (r .count + agreeing) (r .count); buffer = r .buffer; world = r .world })
 
 -- a digest whose first byte is that of the digest of "abc"
 unfoldable pub near : List ℕ
@@ -102,7 +102,7 @@ stepLeakingFocus = saveAttention (λ w. cond (isUser (recordOf (w .terminal) (w 
 abbrev pub focusOf : World → ℕ
 focusOf w = w .terminal .state .focus
 
--- demand 3: "Everything is the same in both but" what is partition 0's, and the focus is not. "ab" asks to be logged in with "abc", which is right in the one run
+-- demand 3: "Everything is the same in both but" what it lists, and the focus is not in the list. "ab" asks to be logged in with "abc", which is right in the one run
 -- and wrong in the other; then the attention key is pressed.
 pub record FocusLeaks : Type 0 where
   pub alike : Alike 0 (room Nobody abcDigest) (room Nobody sevens)
@@ -144,15 +144,15 @@ focus-leaks =
 
 -- ---- a shutdown text that names the user
 
--- the message is shown behind the name of whoever is logged in at the calling partition
+-- the name of whoever is logged in at the calling partition is shown before the message
 unfoldable pub stepLeakingText : Build
 stepLeakingText = saveShutdown (λ w p message. step w (Shutdown p (userName (recordOf (w .terminal) p .user) (tableOf (w .terminal) p (w .tables)) ++ message)))
 
--- partition 0 shuts the terminal down, with no message
+-- partition 0 shuts the terminal down, with an empty message
 abbrev halting : Move
 halting = Shutdown 0 (0 ∷ [])
 
--- demand 3: "Everything is the same in both but" what is named, and the screens are not. "ab" asks to be logged in with "abc", which is right in the one run and
+-- demand 3: "Everything is the same in both but" what it lists, and the screens are not in the list. "ab" asks to be logged in with "abc", which is right in the one run and
 -- wrong in the other; then partition 0 shuts the terminal down.
 pub record TextLeaks : Type 0 where
   pub alike : Alike 0 (room Nobody abcDigest) (room Nobody sevens)
