@@ -20,7 +20,8 @@ use Rattle.state.specs.declared.LoginRecord.{LoginRecord}
 use Rattle.state.specs.Parts.{isActive, seatAt}
 use Rattle.guard.specs.Guard.{guard}
 use Rattle.accounts.specs.SetPassword.{setChecks, setPassword}
-use Rattle.accounts.specs.AccountLaws.{after-refused, set-refused, kept-together, users-kept}
+use Rattle.checks.specs.Laws.{after-refused}
+use Rattle.accounts.specs.AccountLaws.{set-refused, kept-together, users-kept}
 use Rattle.begin.specs.Files.{passwordPath}
 use Rattle.terminal.specs.declared.Terminal.{Terminal}
 use Rattle.terminal.specs.Terminal.{recordOf, tableOf, fileOf, guardOf, differs, tablesWrong}
