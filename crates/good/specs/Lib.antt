@@ -1,0 +1,2 @@
+-- What every world of a run keeps.
+pub mod Good
