@@ -1,0 +1,4 @@
+-- Demand 3: what two terminals that differ only in one partition's passwords have in common.
+pub mod Mask
+pub mod Veil
+pub mod Own
