@@ -2,3 +2,5 @@
 pub mod Mask
 pub mod Veil
 pub mod Own
+pub mod Worlds
+pub mod Devices
