@@ -4,3 +4,4 @@ pub mod Veil
 pub mod Own
 pub mod Worlds
 pub mod Devices
+pub mod Stops

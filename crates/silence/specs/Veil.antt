@@ -118,6 +118,11 @@ module _ (kept : Bool) (q : ℕ) where
   unfolding withState guardOf
   masked-guard t wrong p = rw (masked-state t) (veil-guard (t .plan) (t .state) wrong p)
 
+  -- with a test that looks at the plan
+  pub masked-guard-by : (t : Terminal) (wrong : Plan → Bool) (p : ℕ) → guardOf (maskTerminal kept q t) (wrong (maskTerminal kept q t .plan)) p ≡ guardOf t (wrong (t .plan)) p
+  masked-guard-by t wrong p =
+      masked-guard t (wrong (maskTerminal kept q t .plan)) p ∙ ap (λ (plan : Plan). guardOf t (wrong plan) p) (masked-plan t)
+
 -- ---- a login record that is blanked does not matter
 
 set-blank : (l : List Partition) (i : ℕ) (r n : LoginRecord)
