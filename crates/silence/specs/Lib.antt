@@ -5,3 +5,5 @@ pub mod Own
 pub mod Worlds
 pub mod Devices
 pub mod Stops
+pub mod Memory
+pub mod Others

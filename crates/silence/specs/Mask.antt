@@ -1,10 +1,12 @@
 -- Demand 3: "Everything is the same in both but that file on the store and in memory, that partition's login record, its answers to login, who and
 -- set-password, and the buffer who fills." What is blanked here is what may differ; what is seen through the mask is everything else.
 use mathlib.Core.Bool.{Bool, false, cond}
+use mathlib.Core.List.{List}
 use Prim.Native.Nat.{ℕ}
 use lib.Dec.{eqb}
 use Rattle.octets.specs.Lists.{onPart}
 use Rattle.state.specs.declared.LoginRecord.{LoginRecord}
+use Rattle.state.specs.declared.Plan.{Plan}
 use Rattle.state.specs.Empty.{nobody}
 use Rattle.state.specs.Parts.{seatAt}
 use Rattle.passwords.specs.PasswordFile.{maskDigests}
@@ -21,15 +23,22 @@ seen kept r = cond kept r nobody
 unfoldable pub maskTerminal : Bool → ℕ → Terminal → Terminal
 maskTerminal kept q t = withRecord q (seen kept (recordOf t q)) t
 
+-- a store and a table area with partition q's digests blanked
+abbrev pub maskStore : ℕ → Plan → List ℕ → List ℕ
+maskStore q plan store = onPart (seatAt plan q .file .place) (seatAt plan q .file .length) maskDigests store
+
+abbrev pub maskTables : ℕ → Plan → List ℕ → List ℕ
+maskTables q plan tables = onPart (seatAt plan q .table .place) (seatAt plan q .table .length) maskDigests tables
+
 -- the world with partition q's digests blanked, on the store and in memory, and its login record blanked unless it is kept
 unfoldable pub mask : Bool → ℕ → World → World
 mask kept q w =
     record {
       terminal = maskTerminal kept q (w .terminal);
       permissions = w .permissions;
-      store = onPart (seatAt (w .terminal .plan) q .file .place) (seatAt (w .terminal .plan) q .file .length) maskDigests (w .store);
+      store = maskStore q (w .terminal .plan) (w .store);
       arena = w .arena;
-      tables = onPart (seatAt (w .terminal .plan) q .table .place) (seatAt (w .terminal .plan) q .table .length) maskDigests (w .tables);
+      tables = maskTables q (w .terminal .plan) (w .tables);
       screens = w .screens;
     }
 

@@ -5,15 +5,12 @@ use mathlib.Core.Path.{_≡_, refl, sym, ap}
 use Prim.Native.Nat.{ℕ}
 use lib.Dec.{eqb}
 use Rattle.checks.specs.Settle.{settle}
-use Rattle.octets.specs.Lists.{onPart}
 use Rattle.state.specs.declared.Plan.{Plan}
-use Rattle.state.specs.Parts.{seatAt}
-use Rattle.passwords.specs.PasswordFile.{maskDigests}
 use Rattle.terminal.specs.declared.Terminal.{Terminal}
 use Rattle.terminal.specs.declared.Answer.{Answer}
 use Rattle.terminal.specs.Terminal.{Outcome, outcome, answer}
 use Rattle.steps.specs.World.{World, Result, fills, answers, becomes, withTerminal}
-use Rattle.silence.specs.Mask.{mask, maskTerminal, maskResult}
+use Rattle.silence.specs.Mask.{mask, maskStore, maskTables, maskTerminal, maskResult}
 
 -- what is done to both ways of a choice is done to the choice
 pub settle-map : {A B : Type 0} (f : A → B) (n : ℕ) (x y : A) → settle n (f x) (f y) ≡ f (settle n x y)
@@ -39,9 +36,9 @@ module _ (kept : Bool) (q : ℕ) (w : World) where
       ap (λ (plan : Plan). record {
         terminal = maskTerminal kept q t;
         permissions = w .permissions;
-        store = onPart (seatAt plan q .file .place) (seatAt plan q .file .length) maskDigests (w .store);
+        store = maskStore q plan (w .store);
         arena = w .arena;
-        tables = onPart (seatAt plan q .table .place) (seatAt plan q .table .length) maskDigests (w .tables);
+        tables = maskTables q plan (w .tables);
         screens = w .screens;
       }) (sym e)
 
