@@ -7,3 +7,8 @@ pub mod Devices
 pub mod Stops
 pub mod Memory
 pub mod Others
+pub mod Database
+pub mod Commute
+pub mod Runs
+pub mod Kept
+pub mod SecondHalf

@@ -71,7 +71,7 @@ reserved-file : (q : ℕ) → reserved (passwordPath q) ≡ true
 unfolding reserved passwordPath sameBytes
 reserved-file q = refl
 
-not-reserved : (path : List ℕ) (q : ℕ) → reserved path ≡ false → path ≡ passwordPath q → ⊥
+pub not-reserved : (path : List ℕ) (q : ℕ) → reserved path ≡ false → path ≡ passwordPath q → ⊥
 not-reserved path q free e = false≢true (sym free ∙ ap reserved e ∙ reserved-file q)
 
 pub mapped-apart : (w : World) (q row : ℕ) → Good w → isActive (w .terminal .plan) q ≡ true → row < w .terminal .plan .dsegs
