@@ -1,14 +1,14 @@
 -- Configuration behind the mask: the paths that it lists from the store are none of q's digests.
-use mathlib.Core.Bool.{Bool, true, false, cond}
-use mathlib.Core.List.{List, [], _∷_, _++_}
+use mathlib.Core.Bool.{Bool, true, false}
+use mathlib.Core.List.{List}
 use mathlib.Core.Logic.{inl, inr}
-use mathlib.Core.Path.{_≡_, refl, sym, ap, _∙_}
-use Prim.Native.Nat.{ℕ, zero, suc, _+_, _-_, _≤_, _<_}
+use mathlib.Core.Path.{_≡_, refl, sym}
+use Prim.Native.Nat.{ℕ, zero, suc, _+_, _-_, _<_}
 use native.Mathlib.Omega.{arith}
 use borrow.Author.Tests.{ltb-false}
 use lib.Dec.{eqb, ltb}
-use lib.ListN.{length, take, drop}
-use Rattle.octets.specs.Lists.{part, onPart}
+use lib.ListN.{length}
+use Rattle.octets.specs.Lists.{part}
 use Rattle.octets.specs.OnPartLaws.{Apart, part-onPart-apart}
 use Rattle.rows.specs.LikeLaws.{by-test}
 use Rattle.image.specs.SpotLaws.{title-apart}

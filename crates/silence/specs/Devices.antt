@@ -1,26 +1,21 @@
 -- The calls on devices, shutdown and powerdown, behind the mask: none of them looks at a login record.
-use mathlib.Core.Bool.{Bool, true, false, cond}
-use mathlib.Core.List.{List, [], _++_}
-use mathlib.Core.Path.{_≡_, refl, ap, _∙_}
+use mathlib.Core.Bool.{Bool, true, false}
+use mathlib.Core.List.{List}
+use mathlib.Core.Path.{_≡_}
 use Prim.Native.Nat.{ℕ}
 use lib.ListN.{length, take}
 use Rattle.checks.specs.Checks.{after}
-use Rattle.checks.specs.Settle.{settle, by-settle}
-use Rattle.devices.specs.Choice.{by-cond}
 use Rattle.devices.specs.Queue.{queueTake}
 use Rattle.devices.specs.Screen.{randomRead}
 use Rattle.state.specs.declared.Partition.{Partition}
-use Rattle.state.specs.declared.State.{State}
-use Rattle.state.specs.Parts.{partAt, withPart, withStop, withLogin, withKeyboard, withCursor, faulty}
+use Rattle.state.specs.Parts.{withLogin, withKeyboard, withCursor, faulty}
 use Rattle.console.specs.DeviceChecks.{deviceChecks, noData}
 use Rattle.console.specs.Console as console
-use Rattle.console.specs.Halt.{shownMessage, notice, halt}
 use Rattle.terminal.specs.declared.Terminal.{Terminal}
-use Rattle.terminal.specs.Terminal.{Outcome, answer, outcome, withState, withPartition, partitionOf, guardOf, differs}
+use Rattle.terminal.specs.Terminal.{partitionOf, guardOf, differs}
 use Rattle.terminal.specs.DeviceCalls as devices
-use Rattle.terminal.specs.StopCalls as stops
 use Rattle.silence.specs.Mask.{maskTerminal}
-use Rattle.silence.specs.Veil.{veiled, veil, veil-put, masked-state, masked-plan, masked-part, masked-put, masked-guard}
+use Rattle.silence.specs.Veil.{veiled, masked-plan, masked-part, masked-put, masked-guard}
 use Rattle.silence.specs.Worlds.{settle-map, maskAnswer, maskOutcome}
 
 module _ (kept : Bool) (q : ℕ) where
@@ -68,10 +63,6 @@ module _ (kept : Bool) (q : ℕ) where
     replied-masked : (o : console.Outcome) → devices.replied (maskTerminal kept q t) p (shown p o) ≡ maskOutcome kept q (devices.replied t p o)
     unfolding devices.replied shown maskOutcome maskAnswer
     replied-masked o = rw (masked-put kept q t p (o .reply .part))
-
-    pub replied-plan : (o : console.Outcome) → devices.replied t p o .answer .terminal .plan ≡ t .plan
-    unfolding devices.replied withPartition withState
-    replied-plan o = refl
 
     module _ (major minor : ℕ) where
       pub readNext-masked : (request : ℕ) (buffer : List ℕ)

@@ -1,12 +1,12 @@
 -- q's own login, who and set-password behind the mask that keeps q's login record: what they answer hangs on no digest, but for a login's number.
-use mathlib.Core.Bool.{Bool, true, false, cond, not, _||_, _&&_}
-use mathlib.Core.List.{List, [], _∷_}
+use mathlib.Core.Bool.{Bool, true, false, cond}
+use mathlib.Core.List.{List}
 use mathlib.Core.Logic.{_≢_}
-use mathlib.Core.Path.{_≡_, refl, sym, ap, _∙_}
+use mathlib.Core.Path.{_≡_, refl, sym, _∙_}
 use Prim.Native.Nat.{ℕ, _+_}
 use native.Mathlib.Omega.{arith}
 use borrow.Author.Tests.{ne-eqb}
-use lib.Dec.{eqb, ltb}
+use lib.Dec.{eqb}
 use lib.ListN.{length}
 use Rattle.octets.specs.Lists.{part}
 use Rattle.octets.specs.Same.{sameBytes}
@@ -15,7 +15,6 @@ use Rattle.checks.specs.Checks.{after}
 use Rattle.checks.specs.Settle.{settle, by-settle}
 use Rattle.sha256.specs.Digest.{digest}
 use Rattle.state.specs.declared.LoginRecord.{LoginRecord}
-use Rattle.state.specs.Parts.{seatAt, isActive}
 use Rattle.guard.specs.Guard.{guard}
 use Rattle.passwords.specs.declared.Lookup.{Lookup}
 use Rattle.passwords.specs.declared.Lookup.the-variants.{At, Nowhere}
@@ -25,19 +24,17 @@ use Rattle.passwords.specs.SameLaws.{users-sound, users-count}
 use Rattle.passwords.specs.MaskLaws.{masked-users, mask-length, mask-find}
 use Rattle.accounts.specs.declared.Attempt.{Attempt}
 use Rattle.accounts.specs.Strings.{isString, stringOf}
-use Rattle.accounts.specs.Users.{readable, placeOf}
+use Rattle.accounts.specs.Users.{readable}
 use Rattle.accounts.specs.Login.{attempt, user, tried, loginChecks, login}
-use Rattle.accounts.specs.Who.{who}
-use Rattle.accounts.specs.SetPassword.{Changed, changed, fileImage, onStore, inMemory, written, setChecks, setPassword}
+use Rattle.accounts.specs.SetPassword.{Changed, written, setChecks, setPassword}
 use Rattle.accounts.specs.WorkLaws.{one-block}
 use Rattle.accounts.specs.AccountLaws.{who-masked}
 use Rattle.terminal.specs.declared.Terminal.{Terminal}
-use Rattle.terminal.specs.declared.Answer.{Answer}
-use Rattle.terminal.specs.Terminal.{Outcome, unmoved, recordOf, withRecord, tableOf, fileOf, guardOf, differs, tablesWrong}
+use Rattle.terminal.specs.Terminal.{unmoved, recordOf, withRecord, tableOf, fileOf, guardOf, tablesWrong}
 use Rattle.terminal.specs.AccountCalls as accounts
 use Rattle.promises.specs.Refusals.{record-back}
 use Rattle.promises.specs.WriteFailure as failure
-use Rattle.steps.specs.World.{World, Move, Result, fills, answers, step}
+use Rattle.steps.specs.World.{World, Result, answers, step}
 use Rattle.steps.specs.World.Move.{Login, Who, SetPassword}
 use Rattle.silence.specs.Mask.{seen, mask, maskStore, maskTables, maskTerminal, maskResult}
 use Rattle.silence.specs.Veil.{record-plan}

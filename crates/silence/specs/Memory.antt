@@ -1,17 +1,17 @@
 -- Load, store and flush behind the mask: none of them reads the store, and a flush writes to another file than q's password file.
-use mathlib.Core.Bool.{Bool, true, false, cond, not, _||_, false≢true}
-use mathlib.Core.List.{List, [], _∷_}
+use mathlib.Core.Bool.{Bool, true, false, not, _||_, false≢true}
+use mathlib.Core.List.{List}
 use mathlib.Core.Path.{_≡_, refl, sym, ap, _∙_}
 use Prim.Native.Nat.{ℕ, _<_}
 use native.Mathlib.Omega.{arith}
 use borrow.Author.Tests.{eqb-true, ltb-true, not-false}
 use lib.Dec.{eqb, ltb}
-use lib.ListN.{length, take}
+use lib.ListN.{take}
 use Rattle.octets.specs.Lists.{over, onPart}
 use Rattle.octets.specs.OnPartLaws.{Apart, length-onPart, onPart-comm}
 use Rattle.octets.specs.WriteLaws.{length-over}
 use Rattle.octets.specs.Same.{sameBytes}
-use Rattle.checks.specs.Checks.{_when_, after}
+use Rattle.checks.specs.Checks.{after}
 use Rattle.checks.specs.Laws.{not-due, second-not-due}
 use Rattle.checks.specs.Settle.{settle}
 use Rattle.checks.specs.Told.{told}
@@ -24,7 +24,7 @@ use Rattle.state.specs.Parts.{segmentAt, seatAt, isActive}
 use Rattle.passwords.specs.PasswordFile.{maskDigests}
 use Rattle.passwords.specs.MaskLaws.{mask-length}
 use Rattle.memory.specs.declared.Reach.{Reach}
-use Rattle.memory.specs.Rights.{rowOf, declared, permission, rightOf, reach}
+use Rattle.memory.specs.Rights.{rowOf, declared, rightOf, reach}
 use Rattle.memory.specs.Memory.{bytesOf, flushChecks, flush}
 use Rattle.terminal.specs.declared.Terminal.{Terminal}
 use Rattle.terminal.specs.Terminal.{outcome, unmoved, withState, withPartition, withRecord, guardOf, differs}

@@ -1,15 +1,14 @@
 -- Login, who and set-password of a partition p that is not q, behind the mask of q: p's own record, table and file are as they were.
-use mathlib.Core.Bool.{Bool, true, false, cond, not, _||_, _&&_, false≢true}
-use mathlib.Core.List.{List, [], _∷_}
-use mathlib.Core.Logic.{_⊎_, inl, inr}
+use mathlib.Core.Bool.{Bool, true, false, cond, not, _||_, false≢true}
+use mathlib.Core.List.{List, []}
 use mathlib.Core.Path.{_≡_, refl, sym, ap, _∙_}
 use Prim.Native.Nat.{ℕ, _+_}
 use native.Mathlib.Omega.{arith}
-use borrow.Author.Tests.{eqb-true, eqb-false, not-false}
+use borrow.Author.Tests.{eqb-false, not-false}
 use lib.Dec.{eqb}
-use lib.ListN.{length, getD}
-use Rattle.octets.specs.Lists.{part, over, onPart}
-use Rattle.octets.specs.OnPartLaws.{Apart, part-onPart-apart, onPart-comm}
+use lib.ListN.{getD}
+use Rattle.octets.specs.Lists.{over}
+use Rattle.octets.specs.OnPartLaws.{part-onPart-apart, onPart-comm}
 use Rattle.octets.specs.WriteLaws.{length-over}
 use Rattle.checks.specs.Checks.{_when_, refused, after}
 use Rattle.checks.specs.Laws.{second-not-due}
@@ -25,13 +24,12 @@ use Rattle.guard.specs.Guard.{guard}
 use Rattle.guard.specs.Test.{good}
 use Rattle.passwords.specs.PasswordFile.{maskDigests}
 use Rattle.passwords.specs.MaskLaws.{mask-length}
-use Rattle.accounts.specs.Users.{readable}
-use Rattle.accounts.specs.Login.{attempt, loginChecks, login}
+use Rattle.accounts.specs.Login.{loginChecks, login}
 use Rattle.accounts.specs.Who.{whoChecks, who}
 use Rattle.accounts.specs.SetPassword.{Changed, changed, setChecks, setPassword}
 use Rattle.accounts.specs.AccountLaws.{after-refused, login-refused, who-refused, set-refused}
 use Rattle.terminal.specs.declared.Terminal.{Terminal}
-use Rattle.terminal.specs.Terminal.{outcome, answer, unmoved, withState, withPartition, partitionOf, recordOf, withRecord, tableOf, fileOf, guardOf, differs, tablesWrong}
+use Rattle.terminal.specs.Terminal.{answer, unmoved, withState, withPartition, recordOf, withRecord, tableOf, fileOf, guardOf, differs, tablesWrong}
 use Rattle.terminal.specs.AccountCalls as accounts
 use Rattle.promises.specs.Refusals.{part-back}
 use Rattle.steps.specs.World.{World}
@@ -233,7 +231,3 @@ module _ (kept : Bool) (q : ℕ) (w : World) (g : Good w) (a : isActive (w .term
       let n = guardOf (w .terminal) wrong p in
       rw (set-guard, record-kept, table-view (maskTables q (w .terminal .plan) (w .tables)), file-view (maskStore q (w .terminal .plan) (w .store)))
       (by-test (isActive (w .terminal .plan) p) (set-active n password taken) (λ off. set-idle n password taken (refused-else wrong off)))
-
-  pub set-plan : (password : List ℕ) (taken : ℕ) → accounts.setPassword (w .terminal) p password taken (w .store) (w .tables) .answer .terminal .plan ≡ w .terminal .plan
-  unfolding accounts.setPassword accounts.replaced
-  set-plan password taken = refl

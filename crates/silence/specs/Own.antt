@@ -4,7 +4,6 @@ use mathlib.Core.List.{List}
 use mathlib.Core.Path.{_≡_, refl, sym, ap, _∙_}
 use Prim.Native.Nat.{ℕ}
 use borrow.Author.Tests.{eqb-true}
-use lib.Dec.{eqb}
 use lib.ListN.{length}
 use Rattle.octets.specs.Lists.{part, over, onPart}
 use Rattle.octets.specs.OnPartLaws.{onPart-same, onPart-twice}
@@ -14,13 +13,12 @@ use Rattle.state.specs.Parts.{seatAt, isActive}
 use Rattle.passwords.specs.PasswordFile.{maskDigests}
 use Rattle.accounts.specs.SetPassword.{setPassword}
 use Rattle.accounts.specs.AccountLaws.{file-length, table-length, kept-together, mask-kept}
-use Rattle.terminal.specs.declared.Terminal.{Terminal}
-use Rattle.terminal.specs.Terminal.{recordOf, fileOf, tableOf, guardOf, differs, tablesWrong, withRecord, withPartition, withState, unmoved}
+use Rattle.terminal.specs.Terminal.{recordOf, fileOf, tableOf, guardOf, differs, tablesWrong, withRecord, unmoved}
 use Rattle.terminal.specs.AccountCalls as accounts
 use Rattle.steps.specs.World.{World, Move, fills, answers, step, withTerminal}
 use Rattle.steps.specs.World.Move.{ReadNext, ReadRandom, WriteNext, WriteRandom, Load, Store, Flush, Login, Who, Logout, SetPassword, Shutdown, Powerdown, Configuration, Key, Attention, Fault}
 use Rattle.good.specs.Good.{Good}
-use Rattle.silence.specs.Mask.{mask, maskTerminal, own}
+use Rattle.silence.specs.Mask.{mask, own}
 use Rattle.silence.specs.Veil.{record-plan, record-blanked}
 
 -- a part that is laid over with what looks like it behind the mask

@@ -9,42 +9,16 @@ use borrow.Author.Tests.{eq-eqb}
 use Rattle.rows.specs.LikeLaws.{by-test}
 use Rattle.state.specs.declared.Plan.{Plan}
 use Rattle.state.specs.Parts.{isActive}
-use Rattle.terminal.specs.Terminal.{unmoved, withState, withPartition, withRecord}
-use Rattle.terminal.specs.DeviceCalls as devices
-use Rattle.terminal.specs.MemoryCalls as memory
-use Rattle.terminal.specs.AccountCalls as accounts
-use Rattle.terminal.specs.StopCalls as stops
-use Rattle.terminal.specs.Events as events
-use Rattle.steps.specs.World.{World, Move, Result, fills, answers, becomes, step, run, after}
-use Rattle.steps.specs.World.Move.{ReadNext, ReadRandom, WriteNext, WriteRandom, Load, Store, Flush, Login, Who, Logout, SetPassword, Shutdown, Powerdown, Configuration, Key, Attention, Fault}
+use Rattle.steps.specs.World.{World, Move, Result, step, run, after}
+use Rattle.steps.specs.World.Move.{Login, SetPassword}
 use Rattle.good.specs.Good.{Good}
-use Rattle.silence.specs.Mask.{mask, maskTerminal, maskResult, own}
+use Rattle.silence.specs.Mask.{mask, maskResult, own}
 use Rattle.silence.specs.Veil.{masked-plan}
-use Rattle.silence.specs.Stops.{shutdown-plan, powerdown-plan, logout-plan}
+use Rattle.silence.specs.Plans.{step-plan}
 use Rattle.silence.specs.Own.{own-invisible}
 use Rattle.silence.specs.Commute.{others-commute}
 
--- ---- the plan stays
-
-pub step-plan : (w : World) (m : Move) → step w m .world .terminal .plan ≡ w .terminal .plan
-unfolding step fills answers becomes unmoved withState withPartition withRecord devices.readNext devices.readRandom devices.writeNext devices.writeRandom devices.replied memory.load memory.store memory.flush memory.configuration accounts.login accounts.tried accounts.who accounts.setPassword accounts.replaced events.key events.attention events.fault
-step-plan w (ReadNext p major minor request buffer) = refl
-step-plan w (ReadRandom p major minor offset request buffer) = refl
-step-plan w (WriteNext p major minor request bytes) = refl
-step-plan w (WriteRandom p major minor offset request bytes) = refl
-step-plan w (Load p selector offset buffer) = refl
-step-plan w (Store p selector offset bytes) = refl
-step-plan w (Flush p selector taken) = refl
-step-plan w (Login p name password) = refl
-step-plan w (Who p buffer) = refl
-step-plan w (Logout p) = logout-plan true p (w .terminal) p
-step-plan w (SetPassword p password taken) = refl
-step-plan w (Shutdown p message) = shutdown-plan true p (w .terminal) p message (w .screens)
-step-plan w (Powerdown p) = powerdown-plan true p (w .terminal) p (w .screens)
-step-plan w (Configuration p buffer) = refl
-step-plan w (Key byte) = refl
-step-plan w Attention = refl
-step-plan w (Fault p device set) = refl
+-- ---- who is active stays so
 
 pub active-after : (w : World) (m : Move) (q : ℕ) → isActive (w .terminal .plan) q ≡ true → isActive (step w m .world .terminal .plan) q ≡ true
 active-after w m q a = ap (λ (plan : Plan). isActive plan q) (step-plan w m) ∙ a

@@ -29,16 +29,16 @@ pub same-terminal : (q : ℕ) (w v : World) → mask true q w ≡ mask true q v 
 unfolding mask
 same-terminal q w v e = sym (kept-terminal q (w .terminal)) ∙ ap (λ (x : World). x .terminal) e ∙ kept-terminal q (v .terminal)
 
-results : (q : ℕ) (n m c d : ℕ) (b l : List ℕ) (x y : World) → n ≡ m → c ≡ d → b ≡ l → x ≡ y
+results : (n m c d : ℕ) (b l : List ℕ) (x y : World) → n ≡ m → c ≡ d → b ≡ l → x ≡ y
     → _≡_ {A = Result} (record { number = n; count = c; buffer = b; world = x }) (record { number = m; count = d; buffer = l; world = y })
-results q n m c d b l x y e f g h = rw (e, f, g, h)
+results n m c d b l x y e f g h = rw (e, f, g, h)
 
 module _ (q : ℕ) (w v : World) (g : Good w) (h : Good v) (a : isActive (w .terminal .plan) q ≡ true) (e : mask true q w ≡ mask true q v) where
   same-change : (password other : List ℕ) (taken : ℕ) → isString password ≡ isString other
       → maskResult true q (step w (SetPassword q password taken)) ≡ maskResult true q (step v (SetPassword q other taken))
   unfolding maskResult step answers accounts.setPassword accounts.replaced
   same-change password other taken allowed =
-      results q _ _ 0 0 [] [] _ _
+      results _ _ 0 0 [] [] _ _
       (set-own q w password other taken allowed ∙ ap (λ (x : World). step x (SetPassword q other taken) .number) e ∙ sym (set-own q v other other taken refl))
       refl refl
       (set-invisible true q w (g .seated q a .same) password taken ∙ e ∙ sym (set-invisible true q v (h .seated q (same-active true q w v e a) .same) other taken))

@@ -4,8 +4,6 @@ use mathlib.Core.List.{List, [], _++_}
 use mathlib.Core.Path.{_≡_, refl, sym, ap, _∙_}
 use Prim.Native.Nat.{ℕ}
 use lib.Dec.{eqb}
-use Rattle.checks.specs.Settle.{settle, by-settle}
-use Rattle.devices.specs.Choice.{by-cond}
 use Rattle.state.specs.declared.LoginRecord.{LoginRecord}
 use Rattle.state.specs.declared.Partition.{Partition}
 use Rattle.state.specs.declared.Plan.{Plan}
@@ -16,13 +14,12 @@ use Rattle.guard.specs.Events as guard
 use Rattle.console.specs.Console.{Drawn, drawing, drawn}
 use Rattle.console.specs.Halt.{shownMessage, notice, halt}
 use Rattle.terminal.specs.declared.Terminal.{Terminal}
-use Rattle.terminal.specs.declared.Answer.{Answer}
-use Rattle.terminal.specs.Terminal.{Outcome, answer, outcome, withState, withPartition, partitionOf, recordOf, withRecord, guardOf, differs}
+use Rattle.terminal.specs.Terminal.{answer, outcome, withState, withPartition, partitionOf, withRecord, guardOf, differs}
 use Rattle.terminal.specs.AccountCalls as accounts
 use Rattle.terminal.specs.StopCalls as stops
 use Rattle.terminal.specs.Events as events
 use Rattle.silence.specs.Mask.{seen, maskTerminal}
-use Rattle.silence.specs.Veil.{veiled, veil, veil-part, veil-put, veil-good, veil-stopped, masked-state, masked-plan, masked-part, masked-put, masked-guard, masked-guard-by, record-plan}
+use Rattle.silence.specs.Veil.{veiled, veil, veil-part, veil-put, veil-good, veil-stopped, masked-state, masked-plan, masked-part, masked-put, masked-guard, masked-guard-by}
 use Rattle.silence.specs.Worlds.{settle-map, maskAnswer, maskOutcome}
 
 pub cond-map : {A B : Type 0} (f : A → B) (b : Bool) (x y : A) → cond b (f x) (f y) ≡ f (cond b x y)
@@ -77,10 +74,6 @@ module _ (kept : Bool) (q : ℕ) where
         rw (screens-guard screens, masked-part kept q t p, halt-veiled message p (partitionOf t p) screens, stopped-masked (halt message p (partitionOf t p) screens))
         (settle-map (maskOutcome kept q) n (stops.stopped t p (halt message p (partitionOf t p) screens)) (outcome (answer n 0 t) screens))
 
-    pub shutdown-plan : (message screens : List ℕ) → stops.shutdown t p message screens .answer .terminal .plan ≡ t .plan
-    unfolding stops.shutdown stops.stopped withState
-    shutdown-plan message screens = by-settle (λ (o : Outcome). o .answer .terminal .plan ≡ t .plan) _ (λ e. refl) (λ e. refl)
-
     off-masked : (screens : List ℕ) → stops.switchedOff (maskTerminal kept q t) p screens ≡ maskOutcome kept q (stops.switchedOff t p screens)
     unfolding stops.switchedOff maskOutcome maskAnswer
     off-masked screens =
@@ -92,13 +85,6 @@ module _ (kept : Bool) (q : ℕ) where
     unfolding stops.powerdown
     powerdown-masked screens =
         rw (off-masked screens, shutdown-masked [] screens, masked-plan kept q t) (cond-map (maskOutcome kept q) (t .plan .soft) (stops.switchedOff t p screens) (stops.shutdown t p [] screens))
-
-    pub powerdown-plan : (screens : List ℕ) → stops.powerdown t p screens .answer .terminal .plan ≡ t .plan
-    unfolding stops.powerdown stops.switchedOff withState
-    powerdown-plan screens =
-        by-cond (λ (o : Outcome). o .answer .terminal .plan ≡ t .plan) (t .plan .soft)
-        (λ soft. by-settle (λ (o : Outcome). o .answer .terminal .plan ≡ t .plan) _ (λ e. refl) (λ e. refl))
-        (λ none. shutdown-plan [] screens)
 
     -- ---- a login record put behind the mask, where the mask does not change it
 
@@ -122,10 +108,6 @@ module _ (kept : Bool) (q : ℕ) where
     logout-masked =
         rw (masked-guard kept q t false p, masked-record nobody seen-nobody)
         (settle-map (maskAnswer kept q) (guardOf t false p) (answer 0 0 (withRecord p nobody t)) (answer (guardOf t false p) 0 t))
-
-    pub logout-plan : accounts.logout t p .terminal .plan ≡ t .plan
-    unfolding accounts.logout
-    logout-plan = by-settle (λ (a : Answer). a .terminal .plan ≡ t .plan) _ (λ e. record-plan p nobody t) (λ e. refl)
 
   -- ---- the events
 

@@ -1,5 +1,5 @@
 -- The terminal behind the mask: the plan and the guard are as they were, and each partition is as it was but for a login record.
-use mathlib.Core.Bool.{Bool, true, false, cond, _&&_}
+use mathlib.Core.Bool.{Bool, true, false, cond}
 use mathlib.Core.List.{List, [], _∷_}
 use mathlib.Core.Logic.{_≢_}
 use mathlib.Core.Path.{_≡_, refl, sym, ap, _∙_}
@@ -7,7 +7,7 @@ use Prim.Native.Nat.{ℕ, zero, suc}
 use borrow.Author.Tests.{eqb-true, eqb-false}
 use lib.Dec.{eqb}
 use lib.ListN.{getD, set}
-use lib.Seq.{getD-set-other, set-set, set-comm}
+use lib.Seq.{getD-set-other, set-comm}
 use Rattle.state.specs.declared.LoginRecord.{LoginRecord}
 use Rattle.state.specs.declared.Partition.{Partition}
 use Rattle.state.specs.declared.State.{State}

@@ -9,7 +9,7 @@ use Rattle.state.specs.declared.Plan.{Plan}
 use Rattle.terminal.specs.declared.Terminal.{Terminal}
 use Rattle.terminal.specs.declared.Answer.{Answer}
 use Rattle.terminal.specs.Terminal.{Outcome, outcome, answer}
-use Rattle.steps.specs.World.{World, Result, fills, answers, becomes, withTerminal}
+use Rattle.steps.specs.World.{World, fills, answers, becomes, withTerminal}
 use Rattle.silence.specs.Mask.{mask, maskStore, maskTables, maskTerminal, maskResult}
 
 -- what is done to both ways of a choice is done to the choice
