@@ -13,3 +13,4 @@ pub mod Own
 pub mod Runs
 pub mod Kept
 pub mod SecondHalf
+pub mod Seen
