@@ -54,7 +54,8 @@ module _ (w : World) (g : Good w) where
         screens-long = e ∙ g .screens-long;
         image = g .image;
         seated = λ p a. let h = g .seated p a in record { found = h .found; same = h .same; formed = h .formed; user = h .user };
-        mapped = λ row h. let m = g .mapped row h in record { path = m .path; free = m .free; found = m .found };
+        mapped = λ row h. let m = g .mapped row h in record { path = m .path; free = m .free; found = m .found; titled = m .titled };
+        untitled = g .untitled;
         tables-apart = g .tables-apart;
       }
 
@@ -68,7 +69,8 @@ module _ (w : World) (g : Good w) where
         screens-long = g .screens-long;
         image = g .image;
         seated = λ p a. let h = g .seated p a in record { found = h .found; same = h .same; formed = h .formed; user = h .user };
-        mapped = λ row h. let m = g .mapped row h in record { path = m .path; free = m .free; found = m .found };
+        mapped = λ row h. let m = g .mapped row h in record { path = m .path; free = m .free; found = m .found; titled = m .titled };
+        untitled = g .untitled;
         tables-apart = g .tables-apart;
       }
 
@@ -90,7 +92,8 @@ module _ (w : World) (g : Good w) where
         screens-long = g .screens-long;
         image = g .image;
         seated = λ p a. let h = g .seated p a in record { found = h .found; same = h .same; formed = h .formed; user = users p a };
-        mapped = λ row h. let m = g .mapped row h in record { path = m .path; free = m .free; found = m .found };
+        mapped = λ row h. let m = g .mapped row h in record { path = m .path; free = m .free; found = m .found; titled = m .titled };
+        untitled = g .untitled;
         tables-apart = g .tables-apart;
       }
 

@@ -2,7 +2,7 @@
 use mathlib.Core.Bool.{true, false}
 use mathlib.Core.List.{List}
 use mathlib.Core.Path.{_≡_}
-use Prim.Native.Nat.{ℕ, _<_}
+use Prim.Native.Nat.{ℕ, _+_, _≤_, _<_}
 use lib.ListN.{length}
 use Rattle.octets.specs.OnPartLaws.{Apart}
 use Rattle.image.specs.declared.Found.the-variants.{At}
@@ -38,6 +38,9 @@ pub record Mapped (w : World) (row : ℕ) : Type 0 where
   pub path : List ℕ
   pub free : reserved path ≡ false
   pub found : spot path (w .store) ≡ At (segmentAt (planOf w) row .file .place) (segmentAt (planOf w) row .file .length)
+  -- the path that the configuration lists is the file's own, right before its contents
+  pub titled : (segmentAt (planOf w) row .path .place + segmentAt (planOf w) row .path .length ≡ segmentAt (planOf w) row .file .place)
+      × (segmentAt (planOf w) row .path .length ≡ length path)
 
 -- two spans, of which one ends before the other begins
 abbrev pub SpansApart : Span → Span → Type 0
@@ -57,5 +60,7 @@ pub record Good (w : World) : Type 0 where
   pub seated : (p : ℕ) → isActive (planOf w) p ≡ true → Seated w p
   -- row 0 to 15 of the segments is dseg 0 to 15
   pub mapped : (row : ℕ) → row < planOf w .dsegs → Mapped w row
+  -- row 16 to 31 is mseg 0 to 15: "all zero for an mseg", whose path has no bytes
+  pub untitled : (row : ℕ) → 16 ≤ row → segmentAt (planOf w) row .path .length ≡ 0
   -- no two active partitions share a byte of their tables
   pub tables-apart : (p q : ℕ) → (p ≡ q → ⊥) → isActive (planOf w) p ≡ true → isActive (planOf w) q ≡ true → SpansApart (seatAt (planOf w) p .table) (seatAt (planOf w) q .table)

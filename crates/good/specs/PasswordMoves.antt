@@ -112,7 +112,8 @@ module _ (w : World) (g : Good w) (p : ℕ) (active : isActive (planOf w) p ≡ 
         screens-long = g .screens-long;
         image = good-onFile (over new) (length-over new) (passwordPath p) (w .store) ∙ g .image;
         seated = all-seated;
-        mapped = λ row h. let m = still-mapped w g (passwordPath p) (over new) (length-over new) row (g .mapped row h) in record { path = m .path; free = m .free; found = m .found };
+        mapped = λ row h. let m = still-mapped w g (passwordPath p) (over new) (length-over new) row (g .mapped row h) in record { path = m .path; free = m .free; found = m .found; titled = m .titled };
+        untitled = g .untitled;
         tables-apart = g .tables-apart;
       }
 

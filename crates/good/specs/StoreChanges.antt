@@ -68,7 +68,7 @@ module _ (w : World) (g : Good w) (path : List ℕ) (f : List ℕ → List ℕ) 
   -- ---- the world
 
   pub still-mapped : (row : ℕ) → Mapped w row → Mapped (withStore Afterwards w) row
-  still-mapped row m = record { path = m .path; free = m .free; found = spot-onFile f keeps path (w .store) (m .path) ∙ m .found }
+  still-mapped row m = record { path = m .path; free = m .free; found = spot-onFile f keeps path (w .store) (m .path) ∙ m .found; titled = m .titled }
 
   pub good-file : reserved path ≡ false → Good (withStore Afterwards w)
   good-file free =
@@ -81,6 +81,7 @@ module _ (w : World) (g : Good w) (path : List ℕ) (f : List ℕ → List ℕ) 
         image = good-onFile f keeps path (w .store) ∙ g .image;
         seated = seated;
         mapped = λ row h. still-mapped row (g .mapped row h);
+        untitled = g .untitled;
         tables-apart = g .tables-apart;
       }
     where

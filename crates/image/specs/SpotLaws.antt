@@ -2,8 +2,8 @@
 use mathlib.Core.Bool.{true, false}
 use mathlib.Core.List.{List, [], _∷_, _++_}
 use mathlib.Core.Logic.{inl, inr}
-use mathlib.Core.Path.{_≡_, sym, _∙_}
-use Prim.Native.Nat.{ℕ, _+_, _≤_}
+use mathlib.Core.Path.{_≡_, sym, ap, _∙_}
+use Prim.Native.Nat.{ℕ, _+_, _-_, _≤_}
 use native.Mathlib.Omega.{arith}
 use lib.ListN.{length, length-append}
 use Rattle.octets.specs.Lists.{part, onPart}
@@ -14,7 +14,7 @@ use Rattle.rows.specs.WalkLaws.{join-chunks}
 use Rattle.rows.specs.LikeLaws.{by-test}
 use Rattle.rows.specs.StepLaws.{clash}
 use Rattle.image.specs.declared.Found.the-variants.{At, Nothing}
-use Rattle.image.specs.Files.{contentsAt, contentsLength, named, spotIn}
+use Rattle.image.specs.Files.{pathLength, path, contentsAt, contentsLength, named, spotIn}
 use Rattle.image.specs.Image.{spot, file, onFile, foundPart, onFound}
 use Rattle.image.specs.PlaceLaws.{named-path, named-room, spot-none, spot-hit, spot-miss, file-place, onFile-place}
 
@@ -69,6 +69,58 @@ apart-in p q differ at (c ∷ cs) a n b m h k = by-test (named p c) first (λ e.
     neither : (spotIn p (at + length c) cs ≡ At a n → spotIn q (at + length c) cs ≡ At b m → Apart a n b m) → named p c ≡ false → named q c ≡ false → Apart a n b m
     neither rest e g = rest (sym (spot-miss p at c cs e) ∙ h) (sym (spot-miss q at c cs g) ∙ k)
 
+-- ---- where their paths stand
+
+-- a path stands right before the contents, behind its length
+named-title : (p c : List ℕ) → named p c ≡ true → contentsAt c ≡ 7 + length p
+unfolding contentsAt path
+named-title p c e =
+    let room : 7 + pathLength c ≤ length c = let h = named-room p c e in omega arith in
+    let long : length p ≡ pathLength c = ap length (sym (named-path p c e)) ∙ length-part-in 7 (pathLength c) c room in
+    omega arith
+
+title-within : (p : List ℕ) (at : ℕ) (cs : List (List ℕ)) (a n : ℕ) → spotIn p at cs ≡ At a n → at + length p ≤ a
+title-within p at [] a n h = clash (cc (spot-none p at))
+title-within p at (c ∷ cs) a n h = by-test (named p c) hit (miss (title-within p (at + length c) cs a n))
+  where
+    hit : named p c ≡ true → at + length p ≤ a
+    hit e =
+        let s = spot-hit p at c cs e in
+        let ea : a ≡ at + contentsAt c = cc in
+        let title = named-title p c e in
+        omega arith
+
+    miss : (spotIn p (at + length c) cs ≡ At a n → at + length c + length p ≤ a) → named p c ≡ false → at + length p ≤ a
+    miss rest e = let r = rest (sym (spot-miss p at c cs e) ∙ h) in omega arith
+
+title-apart-in : (p q : List ℕ) → (p ≡ q → ⊥) → (at : ℕ) (cs : List (List ℕ)) (a n b m : ℕ) → spotIn p at cs ≡ At a n → spotIn q at cs ≡ At b m
+    → Apart (a - length p) (length p) b m
+title-apart-in p q differ at [] a n b m h k = clash (cc (spot-none p at))
+title-apart-in p q differ at (c ∷ cs) a n b m h k =
+    by-test (named p c) first (λ e. by-test (named q c) (second e) (neither (title-apart-in p q differ (at + length c) cs a n b m) e))
+  where
+    first : named p c ≡ true → Apart (a - length p) (length p) b m
+    first e =
+        let s = spot-hit p at c cs e in
+        let ea : a ≡ at + contentsAt c = cc in
+        let room = named-room p c e in
+        let title = named-title p c e in
+        let behind = within q (at + length c) cs b m (sym (spot-miss q at c cs (not-both p q c differ e)) ∙ k) in
+        inl (omega arith)
+
+    second : named p c ≡ false → named q c ≡ true → Apart (a - length p) (length p) b m
+    second e g =
+        let s = spot-hit q at c cs g in
+        let eb : b ≡ at + contentsAt c = cc in
+        let em : m ≡ contentsLength c = cc in
+        let room = named-room q c g in
+        let behind = title-within p (at + length c) cs a n (sym (spot-miss p at c cs e) ∙ h) in
+        inr (omega arith)
+
+    neither : (spotIn p (at + length c) cs ≡ At a n → spotIn q (at + length c) cs ≡ At b m → Apart (a - length p) (length p) b m) → named p c ≡ false → named q c ≡ false
+        → Apart (a - length p) (length p) b m
+    neither rest e g = rest (sym (spot-miss p at c cs e) ∙ h) (sym (spot-miss q at c cs g) ∙ k)
+
 module _ (image : List ℕ) where
   -- a file's contents lie inside the image
   pub spot-inside : (p : List ℕ) (a n : ℕ) → spot p image ≡ At a n → a + n ≤ length image
@@ -79,6 +131,11 @@ module _ (image : List ℕ) where
   pub spots-apart : (p q : List ℕ) (a n b m : ℕ) → (p ≡ q → ⊥) → spot p image ≡ At a n → spot q image ≡ At b m → Apart a n b m
   unfolding spot
   spots-apart p q a n b m differ h k = apart-in p q differ 0 (chunks image) a n b m h k
+
+  -- nor does one file's path share a byte with another file
+  pub title-apart : (p q : List ℕ) (a n b m : ℕ) → (p ≡ q → ⊥) → spot p image ≡ At a n → spot q image ≡ At b m → Apart (a - length p) (length p) b m
+  unfolding spot
+  title-apart p q a n b m differ h k = title-apart-in p q differ 0 (chunks image) a n b m h k
 
   -- a file found at a place is that part, as long as was found; a file that is not found has no bytes
   pub file-at : (p : List ℕ) (a n : ℕ) → spot p image ≡ At a n → file p image ≡ part a n image

@@ -64,7 +64,7 @@ partition-back : (t : Terminal) (p : ℕ) → withPartition p (partitionOf t p) 
 unfolding withPartition withState partitionOf partAt withPart
 partition-back t p = rw (set-getD (t .state .partitions) p _)
 
-record-back : (t : Terminal) (p : ℕ) → withRecord p (recordOf t p) t ≡ t
+pub record-back : (t : Terminal) (p : ℕ) → withRecord p (recordOf t p) t ≡ t
 unfolding withRecord recordOf withLogin
 record-back t p = partition-back t p
 

@@ -39,7 +39,7 @@ use Rattle.started.specs.Accepted.{Accepted, keptOf}
 use Rattle.started.specs.SetUp.{SetUp}
 use Rattle.started.specs.Rows.{total-same, total-below, length-joined, below, part-joined, part-over}
 use Rattle.started.specs.Titles.{spot-behind, title-before}
-use Rattle.started.specs.Plan.{plan, active-eight, seat-active, seat-passive, plan-active, password-at, password-none, segment-at, dseg-at, file-found}
+use Rattle.started.specs.Plan.{plan, active-eight, seat-active, seat-passive, plan-active, password-at, password-none, segment-at, untitled-at, dseg-at, file-found}
 use Rattle.started.specs.Tested.{tables-room, password-fits, password-spot, tested}
 
 -- where a dseg's path is kept: it stands in the store right before the file
@@ -192,6 +192,7 @@ module _ (soft : Bool) (text store arena tables screens : List ℕ) (count : ℕ
         path = pathAt row;
         free = k .declared row h .free;
         found = rw (dseg-file row h) (file-found soft text store kept count active s k row h);
+        titled = (titled row h .ends, titled row h .long);
       }
 
   pub mapped-titled : (row : ℕ) → row < s .dsegcount → (m : Mapped world row) × Titled thePlan row (m .path) store
@@ -230,5 +231,6 @@ module _ (soft : Bool) (text store arena tables screens : List ℕ) (count : ℕ
         image = ok .image;
         seated = seated;
         mapped = mapped;
+        untitled = untitled-at soft text store kept count active s k;
         tables-apart = apart;
       }

@@ -2,7 +2,7 @@
 use mathlib.Core.Bool.{Bool, true, false, _&&_, and-false, and-eq-true-iff, false≢true}
 use mathlib.Core.List.{List}
 use mathlib.Core.Path.{_≡_, refl}
-use Prim.Native.Nat.{ℕ, zero, suc, _≤_, _<_}
+use Prim.Native.Nat.{ℕ, zero, suc, _-_, _≤_, _<_}
 use native.Mathlib.Decide.{decLe}
 use native.Mathlib.Nat.{not-suc-le-zero}
 use native.Mathlib.Omega.{arith}
@@ -10,6 +10,7 @@ use borrow.Author.Tests.{ltb-true, lt-ltb, le-ltb}
 use lib.Dec.{ltb}
 use lib.ListN.{length, getD}
 use Rattle.rows.specs.LikeLaws.{by-test}
+use Rattle.devices.specs.Choice.{by-cond}
 use Rattle.image.specs.declared.Found.{Found}
 use Rattle.image.specs.declared.Found.the-variants.{At, Nothing}
 use Rattle.image.specs.Files.{path}
@@ -20,11 +21,13 @@ use Rattle.setup.specs.Setup.{noSpan, span, bytesOf}
 use Rattle.setup.specs.Setup.{isActive as activeOf, noSegment as undeclared}
 use Rattle.state.specs.declared.Kept.{Kept}
 use Rattle.state.specs.declared.Plan.{Plan}
+use Rattle.state.specs.declared.Segment.{Segment}
 use Rattle.state.specs.Empty.{noSeat, noSegment}
 use Rattle.state.specs.Parts.{isActive, seatAt, segmentAt}
-use Rattle.begin.specs.EachLaws.{getD-firsts}
+use Rattle.state.specs.PartsLaws.{segment-out}
+use Rattle.begin.specs.EachLaws.{length-firsts, getD-firsts}
 use Rattle.begin.specs.Files.{passwordPath, spanOf, dsegFile, dsegFiles, passwordFile, passwordFiles}
-use Rattle.begin.specs.Planned.{dsegOf, segmentOf, tableStart, seatOf, planned}
+use Rattle.begin.specs.Planned.{dsegOf, msegOf, segmentOf, tableStart, seatOf, planned}
 use Rattle.begin.specs.Start.{badFile, badPasswords}
 use Rattle.started.specs.Accepted.{neither}
 use Rattle.started.specs.SetUp.{SetUp}
@@ -123,6 +126,22 @@ module _ (soft : Bool) (text store : List ℕ) (kept : Kept) (count : ℕ) (acti
   pub segment-at : (row : ℕ) → row < 32 → segmentAt thePlan row ≡ segmentOf s files row
   unfolding segmentAt planned
   segment-at row h = getD-firsts (segmentOf s files) 32 row noSegment h
+
+  -- an mseg, and what is not declared, has no path
+  no-path : (row : ℕ) → 16 ≤ row → segmentOf s files row .path .length ≡ 0
+  unfolding segmentOf msegOf
+  no-path row h =
+      rw (le-ltb row 16 h) (by-cond (λ (x : Segment). x .path .length ≡ 0) (ltb (row - 16) (s .msegcount)) (λ e. refl) (λ e. refl))
+
+  pub untitled-at : (row : ℕ) → 16 ≤ row → segmentAt thePlan row .path .length ≡ 0
+  unfolding planned
+  untitled-at row h = go (decLe 32 row)
+    where
+      go : Dec (32 ≤ row) → segmentAt thePlan row .path .length ≡ 0
+      go (yes l) =
+          let long : length (thePlan .segments) ≤ row = rw (length-firsts (segmentOf s files) 32) l in
+          rw (← segment-out thePlan row long)
+      go (no l) = rw (segment-at row (omega arith)) (no-path row h)
 
   pub dseg-at : (row : ℕ) → row < s .dsegcount → segmentOf s files row ≡ dsegOf s files row
   unfolding segmentOf
