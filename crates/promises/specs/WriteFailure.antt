@@ -74,7 +74,7 @@ canFail Attention = false
 canFail (Fault p device set) = false
 
 -- no check of a list gives the number k
-unfoldable pub none : ℕ → List Check → Bool
+unfoldable none : ℕ → List Check → Bool
 none k [] = true
 none k (c ∷ checks) = not (eqb (c .number) k) && none k checks
 
@@ -84,7 +84,7 @@ refused-not k n due number z h g =
     by-cond (λ (x : ℕ). x ≢ k) (eqb n 0) (λ e. by-cond (λ (x : ℕ). x ≢ k) due (λ f. g) (λ f. z)) (λ e. h)
 
 -- then neither is the answer
-pub after-not : (k n : ℕ) (checks : List Check) → 0 ≢ k → n ≢ k → none k checks ≡ true → after n checks ≢ k
+after-not : (k n : ℕ) (checks : List Check) → 0 ≢ k → n ≢ k → none k checks ≡ true → after n checks ≢ k
 unfolding none after
 after-not k n [] z h e = h
 after-not k n (c ∷ checks) z h e =
