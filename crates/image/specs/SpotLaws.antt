@@ -132,6 +132,11 @@ module _ (image : List ℕ) where
   unfolding spot
   spots-apart p q a n b m differ h k = apart-in p q differ 0 (chunks image) a n b m h k
 
+  -- a file's path stands before its contents, inside the image
+  pub title-inside : (p : List ℕ) (a n : ℕ) → spot p image ≡ At a n → length p ≤ a
+  unfolding spot
+  title-inside p a n h = let w = title-within p 0 (chunks image) a n h in omega arith
+
   -- nor does one file's path share a byte with another file
   pub title-apart : (p q : List ℕ) (a n b m : ℕ) → (p ≡ q → ⊥) → spot p image ≡ At a n → spot q image ≡ At b m → Apart (a - length p) (length p) b m
   unfolding spot

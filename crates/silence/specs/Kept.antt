@@ -1,17 +1,18 @@
 -- q's own login, who and set-password behind the mask that keeps q's login record: what they answer hangs on no digest, but for a login's number.
-use mathlib.Core.Bool.{Bool, true, false, cond}
-use mathlib.Core.List.{List}
+use mathlib.Core.Bool.{Bool, true, false, cond, not, _&&_, and-eq-true-iff}
+use mathlib.Core.List.{List, [], _∷_}
 use mathlib.Core.Logic.{_≢_}
 use mathlib.Core.Path.{_≡_, refl, sym, _∙_}
 use Prim.Native.Nat.{ℕ, _+_}
 use native.Mathlib.Omega.{arith}
-use borrow.Author.Tests.{ne-eqb}
+use borrow.Author.Tests.{eqb-false, ne-eqb, not-true}
 use lib.Dec.{eqb}
 use lib.ListN.{length}
 use Rattle.octets.specs.Lists.{part}
 use Rattle.octets.specs.Same.{sameBytes}
 use Rattle.octets.specs.OnPartLaws.{part-onPart-same}
-use Rattle.checks.specs.Checks.{after}
+use Rattle.checks.specs.Checks.{Check, refused, after}
+use Rattle.devices.specs.Choice.{by-cond}
 use Rattle.checks.specs.Settle.{settle, by-settle}
 use Rattle.sha256.specs.Digest.{digest}
 use Rattle.state.specs.declared.LoginRecord.{LoginRecord}
@@ -33,7 +34,6 @@ use Rattle.terminal.specs.declared.Terminal.{Terminal}
 use Rattle.terminal.specs.Terminal.{unmoved, recordOf, withRecord, tableOf, fileOf, guardOf, tablesWrong}
 use Rattle.terminal.specs.AccountCalls as accounts
 use Rattle.promises.specs.Refusals.{record-back}
-use Rattle.promises.specs.WriteFailure as failure
 use Rattle.steps.specs.World.{World, Result, answers, step}
 use Rattle.steps.specs.World.Move.{Login, Who, SetPassword}
 use Rattle.silence.specs.Mask.{seen, mask, maskStore, maskTables, maskTerminal, maskResult}
@@ -123,15 +123,33 @@ tried-reported r table pw (At i place count) = go (sameBytes (digest (stringOf p
     go true e = rw (e, one-block pw)
     go false e = rw (e, one-block pw)
 
+-- no check of a list gives the number k
+unfoldable without : ℕ → List Check → Bool
+without k [] = true
+without k (c ∷ checks) = not (eqb (c .number) k) && without k checks
+
+refused-not : (k n : ℕ) (due : Bool) (number : ℕ) → 0 ≢ k → n ≢ k → number ≢ k → refused n due number ≢ k
+unfolding refused
+refused-not k n due number z h g =
+    by-cond (λ (x : ℕ). x ≢ k) (eqb n 0) (λ e. by-cond (λ (x : ℕ). x ≢ k) due (λ f. g) (λ f. z)) (λ e. h)
+
+-- then it is not the answer
+after-not : (k n : ℕ) (checks : List Check) → 0 ≢ k → n ≢ k → without k checks ≡ true → after n checks ≢ k
+unfolding without after
+after-not k n [] z h e = h
+after-not k n (c ∷ checks) z h e =
+    let both = and-eq-true-iff (not (eqb (c .number) k)) (without k checks) .0 e in
+    after-not k (refused n (c .due) (c .number)) checks z (refused-not k n (c .due) (c .number) z h (eqb-false (c .number) k (not-true _ (both .0)))) (both .1)
+
 login-reported : (n : ℕ) (r : LoginRecord) (table name pw : List ℕ) → n ≢ 300 → login n r table name pw ≡ reported (login n r table name pw .number) r (find (stringOf name) table)
-unfolding login loginChecks failure.none
+unfolding login loginChecks without
 login-reported n r table name pw h =
     by-settle (λ (x : Attempt). x ≡ reported (x .number) r (find (stringOf name) table)) _ (λ e. tried-reported r table pw (find (stringOf name) table))
-    (λ e. refusal-reported _ r (find (stringOf name) table) e (failure.after-not 300 n _ (λ z. omega arith) h refl))
+    (λ e. refusal-reported _ r (find (stringOf name) table) e (after-not 300 n _ (λ z. omega arith) h refl))
 
 guard-not : (t : Terminal) (wrong : Bool) (p : ℕ) → guardOf t wrong p ≢ 300
-unfolding guardOf guard failure.none
-guard-not t wrong p = failure.after-not 300 0 _ (λ z. omega arith) (λ z. omega arith) refl
+unfolding guardOf guard without
+guard-not t wrong p = after-not 300 0 _ (λ z. omega arith) (λ z. omega arith) refl
 
 -- a login as it is seen in a masked world, where its number is told
 unfoldable pub shownLogin : ℕ → List ℕ → World → ℕ → Result

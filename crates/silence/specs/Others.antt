@@ -27,7 +27,8 @@ use Rattle.passwords.specs.MaskLaws.{mask-length}
 use Rattle.accounts.specs.Login.{loginChecks, login}
 use Rattle.accounts.specs.Who.{whoChecks, who}
 use Rattle.accounts.specs.SetPassword.{Changed, changed, setChecks, setPassword}
-use Rattle.accounts.specs.AccountLaws.{after-refused, login-refused, who-refused, set-refused}
+use Rattle.checks.specs.Laws.{after-refused}
+use Rattle.accounts.specs.AccountLaws.{login-refused, who-refused, set-refused}
 use Rattle.terminal.specs.declared.Terminal.{Terminal}
 use Rattle.terminal.specs.Terminal.{answer, unmoved, withState, withPartition, recordOf, withRecord, tableOf, fileOf, guardOf, differs, tablesWrong}
 use Rattle.terminal.specs.AccountCalls as accounts
