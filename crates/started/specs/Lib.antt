@@ -5,5 +5,7 @@ pub mod Rows
 pub mod Titles
 pub mod Plan
 pub mod Tested
+pub mod Segments
 pub mod FirstWorld
 pub mod Start
+pub mod FromStart

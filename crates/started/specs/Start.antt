@@ -8,15 +8,18 @@ use Rattle.checks.specs.Settle.{settle, by-settle}
 use Rattle.setup.specs.declared.Setup.{Setup}
 use Rattle.setup.specs.Reading.{permissionTable}
 use Rattle.state.specs.declared.Plan.{Plan}
+use Rattle.state.specs.Parts.{segmentAt}
 use Rattle.terminal.specs.declared.Terminal.{Terminal}
 use Rattle.terminal.specs.Start.{Start, begunFrom, start}
-use Rattle.steps.specs.World.{World}
+use Rattle.steps.specs.World.{World, Move, after}
 use Rattle.begin.specs.Planned.{planned, planOf, firstState}
 use Rattle.begin.specs.Start.{Beginning, beginning, refused, filled, carriedOut}
 use Rattle.begin.specs.Start.{start as begin}
-use Rattle.good.specs.Good.{Mapped, Good}
+use Rattle.good.specs.Good.{Mapped, SpansApart, Good}
+use Rattle.good.specs.Runs.{plan-stays}
 use Rattle.started.specs.Accepted.{Accepted, keptOf, setupOf, all-filled, accepted}
 use Rattle.started.specs.Plan.{plan}
+use Rattle.started.specs.Segments.{apart-at}
 use Rattle.started.specs.FirstWorld.{Titled, worldFrom, mapped-titled, world-good}
 
 -- the world that a start leaves; the store is only read
@@ -70,6 +73,19 @@ module _ (t : Terminal) (count : ℕ) (active : List Bool) (soft : Bool) (text s
   started-titled z =
       by-world (λ (w : World). (row : ℕ) → row < w .terminal .plan .dsegs → (m : Mapped w row) × Titled (w .terminal .plan) row (m .path) store) z
       (λ s ok. mapped-titled soft text store arena tables screens count active s ok)
+
+  -- no two segments share a byte of the arena, at start and after any run
+  pub started-apart : start t count active soft text store arena tables screens permissions .started .number ≡ 0
+      → (i j : ℕ) → (i ≡ j → ⊥) → SpansApart (segmentAt (afterwards .terminal .plan) i .memory) (segmentAt (afterwards .terminal .plan) j .memory)
+  unfolding start begunFrom
+  started-apart z =
+      by-world (λ (w : World). (i j : ℕ) → (i ≡ j → ⊥) → SpansApart (segmentAt (w .terminal .plan) i .memory) (segmentAt (w .terminal .plan) j .memory)) z
+      (λ s ok. apart-at soft text store (keptOf store arena tables screens) count active s (ok .set-up))
+
+  pub segments-apart : start t count active soft text store arena tables screens permissions .started .number ≡ 0
+      → (ms : List Move) (i j : ℕ) → (i ≡ j → ⊥)
+      → SpansApart (segmentAt (after afterwards ms .terminal .plan) i .memory) (segmentAt (after afterwards ms .terminal .plan) j .memory)
+  segments-apart z ms i j differ = rw (plan-stays afterwards ms) (started-apart z i j differ)
 
   refused-same : (n line : ℕ) → (n ≡ 0 → ⊥) → worldOf (begunFrom t (beginning (refused n line) arena tables screens permissions)) store ≡ before
   unfolding worldOf begunFrom settle
