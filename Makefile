@@ -1,12 +1,14 @@
-# run: a working day with the incident, and the listing of a sample set-up    test: the gate    bench: figures beside C, OpenSSL and memmove
+# run: a working day, the incident, and the listing of a sample set-up    test: the gate    bench: figures beside C, OpenSSL and memmove
 # fuzz-listing: the listing beside a second reader, on 20,000 made-up texts    fmt: lay out every file
 .PHONY: run test bench fuzz-listing fmt rt-is-there
 
 run: rt-is-there
 	@echo 'make run: proving and building the programs (minutes after a change, a second else) ..'
-	@rt check workday listing
+	@rt check workday incident listing
 	@echo 'make run: a working day:'
 	@target/bin/workday
+	@echo 'make run: the incident:'
+	@target/bin/incident
 	@echo
 	@echo 'make run: the listing of examples/sample.txt:'
 	@target/bin/listing <examples/sample.txt
