@@ -1,0 +1,2 @@
+-- Demand 3, from start.
+pub mod Runs
