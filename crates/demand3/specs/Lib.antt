@@ -1,2 +1,5 @@
 -- Demand 3, from start.
+pub mod Images
+pub mod ImageLaws
+pub mod Verdicts
 pub mod Runs
