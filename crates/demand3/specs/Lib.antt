@@ -2,4 +2,5 @@
 pub mod Images
 pub mod ImageLaws
 pub mod Verdicts
+pub mod Answers
 pub mod Runs
