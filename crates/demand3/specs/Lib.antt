@@ -3,4 +3,6 @@ pub mod Images
 pub mod ImageLaws
 pub mod Verdicts
 pub mod Answers
+pub mod Joined
+pub mod Masked
 pub mod Runs
