@@ -33,6 +33,13 @@ module _ (t : Terminal) (count : ℕ) (active : List Bool) (soft : Bool) (text a
   unfolding start begunFrom begin carriedOut filled
   line-of store = sym (settle-map (λ (b : Beginning). b .line) (judge store .number) _ _)
 
+  -- blanked digests change no answer
+  pub number-masked : (q : ℕ) (store : List ℕ) → from (maskImage q store) .started .number ≡ from store .started .number
+  number-masked q store =
+      number-of (maskImage q store)
+      ∙ ap (λ (o : Outcome). settle (o .number) 0 (o .number)) (verdict-masked q store count active text _ _ _)
+      ∙ sym (number-of store)
+
   module _ (q : ℕ) (store other : List ℕ) (like : maskImage q store ≡ maskImage q other) where
     same-verdict : judge store ≡ judge other
     same-verdict =

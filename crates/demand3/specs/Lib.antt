@@ -5,4 +5,5 @@ pub mod Verdicts
 pub mod Answers
 pub mod Joined
 pub mod Masked
+pub mod Starts
 pub mod Runs
