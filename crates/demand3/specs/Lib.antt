@@ -7,3 +7,4 @@ pub mod Joined
 pub mod Masked
 pub mod Starts
 pub mod Runs
+pub mod Demand3
