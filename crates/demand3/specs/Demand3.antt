@@ -7,7 +7,7 @@ use Prim.Native.Nat.{ℕ, _<_}
 use lib.ListN.{getD}
 use Rattle.terminal.specs.declared.Terminal.{Terminal}
 use Rattle.terminal.specs.Start.{Start, start}
-use Rattle.steps.specs.World.{World, Move, run, after}
+use Rattle.steps.specs.World.{World, Move, run}
 use Rattle.good.specs.Good.{Good}
 use Rattle.started.specs.Start.{worldOf, start-good}
 use Rattle.silence.specs.Mask.{mask, maskResult}

@@ -1,5 +1,5 @@
 -- One behind the other: of which one is changed.
-use mathlib.Core.List.{List, [], _++_, append-nil}
+use mathlib.Core.List.{List, _++_, append-nil}
 use mathlib.Core.Path.{_≡_, refl, sym, ap, _∙_}
 use Prim.Native.Nat.{ℕ, zero, suc, _+_, _≤_, _<_}
 use native.Mathlib.Decide.{decLe}
@@ -7,7 +7,7 @@ use native.Mathlib.Nat.{not-suc-le-zero, add-zero, zero-add}
 use native.Mathlib.Omega.{arith}
 use lib.ListN.{length, take, drop}
 use lib.Seq.{drop-length, take-all}
-use Rattle.octets.specs.Lists.{part, over, onPart, KeepsLength}
+use Rattle.octets.specs.Lists.{over, onPart, KeepsLength}
 use Rattle.octets.specs.PartLaws.{part-all}
 use Rattle.octets.specs.OnPartLaws.{onPart-def, length-onPart}
 use Rattle.octets.specs.WriteLaws.{over-split}

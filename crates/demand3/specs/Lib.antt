@@ -1,6 +1,7 @@
 -- Demand 3, from start.
 pub mod Images
 pub mod ImageLaws
+pub mod LikeImages
 pub mod Verdicts
 pub mod Answers
 pub mod Joined

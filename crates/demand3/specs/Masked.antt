@@ -3,7 +3,7 @@ use mathlib.Core.Bool.{Bool, true, false}
 use mathlib.Core.List.{List}
 use mathlib.Core.Logic.{inl, inr}
 use mathlib.Core.Path.{_≡_, refl, sym, ap, _∙_}
-use Prim.Native.Nat.{ℕ, _+_, _≤_, _<_}
+use Prim.Native.Nat.{ℕ, _≤_, _<_}
 use native.Mathlib.Decide.{decLe}
 use native.Mathlib.Omega.{arith}
 use borrow.Author.Tests.{le-ltb}
@@ -18,21 +18,19 @@ use Rattle.passwords.specs.MaskLaws.{mask-length}
 use Rattle.setup.specs.declared.Span.{Span}
 use Rattle.setup.specs.declared.Setup.{Setup}
 use Rattle.setup.specs.Setup.{noSpan}
-use Rattle.setup.specs.Setup.{isActive as activeOf}
 use Rattle.state.specs.declared.Kept.{Kept}
 use Rattle.state.specs.declared.LoginRecord.{LoginRecord}
 use Rattle.state.specs.declared.Plan.{Plan}
 use Rattle.state.specs.Empty.{nobody}
 use Rattle.state.specs.Parts.{isActive, seatAt, segmentAt}
 use Rattle.begin.specs.Each.{joined}
-use Rattle.begin.specs.Files.{passwordPath, passwordFiles, dsegFiles}
-use Rattle.begin.specs.Planned.{segmentOf, planned, firstState}
+use Rattle.begin.specs.Files.{passwordPath}
+use Rattle.begin.specs.Planned.{segmentOf, planned}
 use Rattle.begin.specs.Filled.{fileBytes, contentsOf, arenaImage, tableOf, tablesImage}
-use Rattle.terminal.specs.declared.Terminal.{Terminal}
-use Rattle.terminal.specs.Terminal.{recordOf, withRecord}
+use Rattle.terminal.specs.Terminal.{withRecord}
 use Rattle.promises.specs.Refusals.{record-back}
 use Rattle.steps.specs.World.{World}
-use Rattle.good.specs.Good.{Seated, SpansApart, Good}
+use Rattle.good.specs.Good.{SpansApart, Good}
 use Rattle.started.specs.SetUp.{SetUp}
 use Rattle.started.specs.Accepted.{Accepted, keptOf}
 use Rattle.started.specs.Rows.{below}

@@ -1,14 +1,12 @@
 -- Start's verdict and what start fixes hang on no digest.
-use mathlib.Core.Bool.{Bool, true, cond}
+use mathlib.Core.Bool.{Bool, true}
 use mathlib.Core.List.{List}
-use mathlib.Core.Path.{_≡_, refl, sym, ap, _∙_}
+use mathlib.Core.Path.{_≡_, refl}
 use Prim.Native.Nat.{ℕ, zero, suc}
-use Rattle.checks.specs.Settle.{settle}
 use Rattle.statements.specs.Statements.{statementAt}
 use Rattle.statements.specs.declared.Statement.{Statement}
 use Rattle.statements.specs.declared.Statement.the-variants.{Code, Dseg, Mseg, Malformed}
 use Rattle.text.specs.Gaps.{tokenPlace}
-use Rattle.image.specs.Image.{good, spot, wasFound}
 use Rattle.setup.specs.declared.Setup.{Setup}
 use Rattle.setup.specs.Setup.{begun}
 use Rattle.setup.specs.Rules.{absent, codeChecks, dsegChecks}
@@ -19,7 +17,7 @@ use Rattle.begin.specs.Files.{passwordPath, dsegFile, passwordFile, dsegFiles, 
 use Rattle.begin.specs.Planned.{planOf}
 use Rattle.begin.specs.Start.{early, described, short, badFile, badPasswords, lateChecks, verdict}
 use Rattle.demand3.specs.Images.{maskImage}
-use Rattle.demand3.specs.ImageLaws.{length-image, spot-image, good-image, formed-image}
+use Rattle.demand3.specs.ImageLaws.{spot-image, good-image, formed-image}
 
 module _ (q : ℕ) (store : List ℕ) where
   -- ---- the text
