@@ -88,11 +88,11 @@ module _ (soft : Bool) (text store arena tables screens : List ℕ) (count : ℕ
 
   -- ---- the password tables
 
-  seat-of : (p : ℕ) → activeOf s p ≡ true → (seatAt thePlan p .file ≡ getD passwords p noSpan) × (seatAt thePlan p .table .place ≡ tableStart passwords p) × (seatAt thePlan p .table .length ≡ getD passwords p noSpan .length)
+  pub seat-of : (p : ℕ) → activeOf s p ≡ true → (seatAt thePlan p .file ≡ getD passwords p noSpan) × (seatAt thePlan p .table .place ≡ tableStart passwords p) × (seatAt thePlan p .table .length ≡ getD passwords p noSpan .length)
   seat-of p a = let e = seat-active soft text store kept count active s k p a in (rw e, rw e, rw e)
 
   -- as many bytes as the file has; none of a passive partition
-  as-long : (p : ℕ) → p < 8 → length (bytesFor thePlan store p) ≡ getD passwords p noSpan .length
+  pub as-long : (p : ℕ) → p < 8 → length (bytesFor thePlan store p) ≡ getD passwords p noSpan .length
   unfolding bytesFor fileBytes
   as-long p h =
       by-test (activeOf s p)
@@ -104,7 +104,7 @@ module _ (soft : Bool) (text store arena tables screens : List ℕ) (count : ℕ
       rw (seat-passive soft text store kept count active s k p h a, password-none soft text store kept count active s k p h a)
       (length-part-in 0 0 store (omega arith)))
 
-  start-joined : (p : ℕ) → p ≤ 8 → tableStart passwords p ≡ length (joined (bytesFor thePlan store) p)
+  pub start-joined : (p : ℕ) → p ≤ 8 → tableStart passwords p ≡ length (joined (bytesFor thePlan store) p)
   unfolding tableStart
   start-joined p h =
       rw (length-joined (bytesFor thePlan store) p)
@@ -127,7 +127,7 @@ module _ (soft : Bool) (text store arena tables screens : List ℕ) (count : ℕ
 
   -- ---- who is logged in
 
-  record-at : (p : ℕ) → recordOf terminal p ≡ nobody
+  pub record-at : (p : ℕ) → recordOf terminal p ≡ nobody
   unfolding recordOf partitionOf partAt firstState
   record-at p = ap (λ (x : Partition). x .login) (go (decLe 8 p))
     where
@@ -137,7 +137,7 @@ module _ (soft : Bool) (text store arena tables screens : List ℕ) (count : ℕ
 
   -- ---- partitions and segments
 
-  in-setup : (p : ℕ) → isActive thePlan p ≡ true → activeOf s p ≡ true
+  pub in-setup : (p : ℕ) → isActive thePlan p ≡ true → activeOf s p ≡ true
   in-setup p a = sym (plan-active soft text store kept count active s k p) ∙ a
 
   file-bytes : (p : ℕ) → activeOf s p ≡ true → fileOf terminal p store ≡ file (passwordPath p) store

@@ -73,7 +73,7 @@ some-flag (suc n) active e = go (getD active n false) refl e (some-flag n active
     go false f k rest = let r = rest k in let low = r .1 in (r .0, omega arith, r .2)
 
 -- a flag of a partition is kept
-flag-kept : (count : ℕ) (active : List Bool) (q : ℕ) → q < min count 8 → getD active q false ≡ true → getD (begun count active .active) q false ≡ true
+pub flag-kept : (count : ℕ) (active : List Bool) (q : ℕ) → q < min count 8 → getD active q false ≡ true → getD (begun count active .active) q false ≡ true
 unfolding begun
 flag-kept count active q h e = go (decLe (length active) q)
   where
@@ -102,7 +102,7 @@ module _ (soft : Bool) (text store arena tables screens : List ℕ) (count : ℕ
 
   -- ---- what was given, and the room
 
-  some-count : (1 ≤ count) × (count ≤ 8)
+  pub some-count : (1 ≤ count) × (count ≤ 8)
   some-count =
       let both = not-false (leb 1 count && leb count 8) (neither (not (leb 1 count && leb count 8)) (not (someActive count active)) (ok .given) .0) in
       let each = and-eq-true-iff (leb 1 count) (leb count 8) .0 both in

@@ -1,0 +1,1 @@
+// This crate has no code: its theorems are in specs/.
