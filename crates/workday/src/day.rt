@@ -43,13 +43,9 @@ fn logins(t: Terminal, tables: &[u8]) -> Terminal {
         b"login of bert with a wrong password",
         t.login(0, b"bert\0", b"first\0", tables),
     );
-    let first = t.login(0, b"anna\0", b"first\0", tables);
-    say::counted(b"login of anna", first);
-    let anna = first.terminal;
-    let mut name = [45u8; 34];
-    say::line(b"who in partition 0", anna.who(0, tables, &mut name));
-    say::bytes(b"buffer", parts::piece(&name, 0, 6));
-    anna
+    let anna = t.login(0, b"anna\0", b"first\0", tables);
+    say::counted(b"login of anna", anna);
+    anna.terminal
 }
 
 fn sheets(t: Terminal, permissions: [[u8; 8]; 32], arena: &mut [u8; 64], image: &mut [u8; 247]) {
