@@ -61,16 +61,11 @@ fn sheets(t: Terminal, permissions: [[u8; 8]; 32], arena: &mut [u8; 64], image: 
     say::bytes(b"sheet", &sheet);
     say::bytes(b"file on the store", parts::piece(image, 65, 24));
     say::line(
-        b"flush that breaks off after seven bytes",
-        t.flush(permissions, 0, 256, 7, arena, image),
-    );
-    say::bytes(b"file on the store", parts::piece(image, 65, 24));
-    say::line(
         b"flush, one byte less than the file",
         t.flush(permissions, 0, 256, 23, arena, image),
     );
-    say::line(b"flush", t.flush(permissions, 0, 256, 24, arena, image));
     say::bytes(b"file on the store", parts::piece(image, 65, 24));
+    say::line(b"flush", t.flush(permissions, 0, 256, 24, arena, image));
 }
 
 fn passwords(t: Terminal, image: &mut [u8; 247], tables: &mut [u8; 130]) -> Terminal {
@@ -90,13 +85,9 @@ fn passwords(t: Terminal, image: &mut [u8; 247], tables: &mut [u8; 130]) -> Term
 }
 
 fn evening(t: Terminal, screens: &mut [u8; 6001]) {
-    let written = t.write_next(0, 2, 0, 21, b"Sheet 13\nopen\rshut\x08T\n\n", screens);
-    say::counted(b"next-write", written);
-    say::bytes(b"row 0", parts::piece(screens, 0, 10));
-    say::bytes(b"row 1", parts::piece(screens, 80, 10));
-    let halted = written.terminal.shutdown(0, b"good night\0", screens);
+    let halted = t.shutdown(0, b"good night\0", screens);
     say::line(b"shutdown", halted);
-    say::bytes(b"row 2", parts::piece(screens, 160, 14));
-    say::bytes(b"row 3", parts::piece(screens, 240, 14));
+    say::bytes(b"row 0", parts::piece(screens, 0, 14));
+    say::bytes(b"row 1", parts::piece(screens, 80, 14));
     say::line(b"logout", halted.terminal.logout(0));
 }
