@@ -1,6 +1,6 @@
 -- What no step changes: the plan, and of the store where each file stands and how long it all is.
 use mathlib.Core.Bool.{Bool, true, false, _||_}
-use mathlib.Core.List.{List, []}
+use mathlib.Core.List.{List}
 use mathlib.Core.Path.{_≡_, refl, _∙_}
 use Prim.Native.Nat.{ℕ}
 use borrow.Author.Tests.{eqb-true, eqb-false}
@@ -15,7 +15,6 @@ use Rattle.image.specs.ChangeLaws.{length-onFile, spot-onFile}
 use Rattle.checks.specs.Checks.{after}
 use Rattle.checks.specs.Settle.{by-settle}
 use Rattle.checks.specs.Told.{Told}
-use Rattle.devices.specs.Choice.{by-cond}
 use Rattle.state.specs.declared.LoginRecord.{LoginRecord}
 use Rattle.state.specs.Parts.{isActive, seatAt}
 use Rattle.memory.specs.Rights.{rowOf, reach}
@@ -23,13 +22,10 @@ use Rattle.memory.specs.Memory.{flush}
 use Rattle.accounts.specs.SetPassword.{setChecks, setPassword}
 use Rattle.accounts.specs.AccountLaws.{set-refused}
 use Rattle.begin.specs.Files.{passwordPath}
-use Rattle.terminal.specs.declared.Answer.{Answer}
-use Rattle.terminal.specs.Terminal.{Outcome, unmoved, withState, withPartition, withRecord, recordOf, tableOf, fileOf, guardOf, differs, tablesWrong}
-use Rattle.terminal.specs.DeviceCalls as devices
+use Rattle.terminal.specs.Terminal.{unmoved, recordOf, tableOf, fileOf, guardOf, differs, tablesWrong}
 use Rattle.terminal.specs.MemoryCalls as memory
 use Rattle.terminal.specs.AccountCalls as accounts
-use Rattle.terminal.specs.StopCalls as stops
-use Rattle.terminal.specs.Events as events
+use Rattle.promises.specs.Lengths.{step-keeps-frame}
 use Rattle.steps.specs.World.{World, Move, ReadNext, ReadRandom, WriteNext, WriteRandom, Load, Store, Flush, Login, Who, Logout, SetPassword, Shutdown, Powerdown, Configuration, Key, Attention, Fault, fills, answers, becomes, step}
 use Rattle.good.specs.Good.{planOf, Good}
 use Rattle.good.specs.MemoryMoves.{reached}
@@ -37,39 +33,8 @@ use Rattle.good.specs.PasswordMoves.{none-before, guard-active, unchange
 
 -- ---- the plan
 
-module _ (w : World) where
-  abbrev SamePlan : Outcome → Type 0
-  SamePlan o = o .answer .terminal .plan ≡ planOf w
-
-  shut-plan : (p : ℕ) (message : List ℕ) → SamePlan (stops.shutdown (w .terminal) p message (w .screens))
-  unfolding stops.shutdown stops.stopped withState
-  shut-plan p message = by-settle SamePlan _ (λ e. refl) (λ e. refl)
-
-  off-plan : (p : ℕ) → SamePlan (stops.switchedOff (w .terminal) p (w .screens))
-  unfolding stops.switchedOff withState
-  off-plan p = by-settle SamePlan _ (λ e. refl) (λ e. refl)
-
 pub plan-step : (w : World) (m : Move) → planOf (step w m .world) ≡ planOf w
-unfolding step fills answers becomes devices.readNext devices.readRandom devices.writeNext devices.writeRandom devices.replied withPartition withState withRecord
-    memory.load memory.store memory.flush memory.configuration unmoved
-    accounts.login accounts.tried accounts.who accounts.logout accounts.setPassword accounts.replaced stops.powerdown events.key events.attention events.fault
-plan-step w (ReadNext p major minor request buffer) = refl
-plan-step w (ReadRandom p major minor offset request buffer) = refl
-plan-step w (WriteNext p major minor request bytes) = refl
-plan-step w (WriteRandom p major minor offset request bytes) = refl
-plan-step w (Load p selector offset buffer) = refl
-plan-step w (Store p selector offset bytes) = refl
-plan-step w (Flush p selector taken) = refl
-plan-step w (Login p name password) = refl
-plan-step w (Who p buffer) = refl
-plan-step w (Logout p) = by-settle (λ (a : Answer). a .terminal .plan ≡ planOf w) _ (λ e. refl) (λ e. refl)
-plan-step w (SetPassword p password taken) = refl
-plan-step w (Shutdown p message) = shut-plan w p message
-plan-step w (Powerdown p) = by-cond (SamePlan w) (planOf w .soft) (λ e. off-plan w p) (λ e. shut-plan w p [])
-plan-step w (Configuration p buffer) = refl
-plan-step w (Key byte) = refl
-plan-step w Attention = refl
-plan-step w (Fault p device set) = refl
+plan-step w m = step-keeps-frame w m .terminal .plan
 
 -- ---- the store
 

@@ -17,7 +17,7 @@ use Rattle.steps.specs.World.{World, Move, fills, answers, becomes, step, withS
 use Rattle.steps.specs.World.Move.{ReadNext, ReadRandom, WriteNext, WriteRandom, Load, Store, Flush, Login, Who, Logout, SetPassword, Shutdown, Powerdown, Configuration, Key, Attention, Fault}
 use Rattle.good.specs.Good.{Good}
 use Rattle.silence.specs.Mask.{mask, maskTerminal, maskResult, own}
-use Rattle.silence.specs.Plans.{step-plan}
+use Rattle.good.specs.Stays.{plan-step}
 use Rattle.silence.specs.Worlds.{maskAnswer, maskOutcome, fills-masked, answers-masked, becomes-masked}
 use Rattle.silence.specs.Devices.{readNext-masked, readRandom-masked, writeNext-masked, writeRandom-masked}
 use Rattle.silence.specs.Stops.{shutdown-masked, powerdown-masked, logout-masked, key-masked, attention-masked, fault-masked}
@@ -59,7 +59,7 @@ module _ (kept : Bool) (q : ℕ) (w : World) (g : Good w) (a : isActive (w .term
   flush-commutes p selector taken =
       let o = memory.flush (w .terminal) (w .permissions) p selector taken (w .arena) (w .store) in
       ap (λ (x : Outcome). answers (withStore (x .lent) (mask kept q w)) (x .answer)) (flush-masked kept q w g a p selector taken)
-      ∙ answers-masked kept q (withStore (o .lent) w) (o .answer) (step-plan w (Flush p selector taken))
+      ∙ answers-masked kept q (withStore (o .lent) w) (o .answer) (plan-step w (Flush p selector taken))
 
   set-commutes : (p : ℕ) (password : List ℕ) (taken : ℕ) → own q (SetPassword p password taken) ≡ false
       → step (mask kept q w) (SetPassword p password taken) ≡ maskResult kept q (step w (SetPassword p password taken))
@@ -67,55 +67,55 @@ module _ (kept : Bool) (q : ℕ) (w : World) (g : Good w) (a : isActive (w .term
   set-commutes p password taken other =
       let o = accounts.setPassword (w .terminal) p password taken (w .store) (w .tables) in
       ap (λ (x : accounts.Written). answers (withTables (x .tables) (withStore (x .store) (mask kept q w))) (x .answer)) (set-other kept q w g a p other password taken)
-      ∙ answers-masked kept q (withTables (o .tables) (withStore (o .store) w)) (o .answer) (step-plan w (SetPassword p password taken))
+      ∙ answers-masked kept q (withTables (o .tables) (withStore (o .store) w)) (o .answer) (plan-step w (SetPassword p password taken))
 
 pub others-commute : (kept : Bool) (q : ℕ) (w : World) (m : Move) → Good w → isActive (w .terminal .plan) q ≡ true → own q m ≡ false
     → step (mask kept q w) m ≡ maskResult kept q (step w m)
 unfolding step fills answers becomes mask own
 others-commute kept q w (ReadNext p major minor request buffer) g a e =
     filled kept q w (devices.readNext (w .terminal) p major minor request buffer) _
-    (readNext-masked kept q (w .terminal) p major minor request buffer) (step-plan w (ReadNext p major minor request buffer))
+    (readNext-masked kept q (w .terminal) p major minor request buffer) (plan-step w (ReadNext p major minor request buffer))
 others-commute kept q w (ReadRandom p major minor offset request buffer) g a e =
     filled kept q w (devices.readRandom (w .terminal) p major minor offset request (w .screens) buffer) _
-    (readRandom-masked kept q (w .terminal) p major minor offset request (w .screens) buffer) (step-plan w (ReadRandom p major minor offset request buffer))
+    (readRandom-masked kept q (w .terminal) p major minor offset request (w .screens) buffer) (plan-step w (ReadRandom p major minor offset request buffer))
 others-commute kept q w (WriteNext p major minor request bytes) g a e =
     screened kept q w (devices.writeNext (w .terminal) p major minor request bytes (w .screens)) _
-    (writeNext-masked kept q (w .terminal) p major minor request bytes (w .screens)) (step-plan w (WriteNext p major minor request bytes))
+    (writeNext-masked kept q (w .terminal) p major minor request bytes (w .screens)) (plan-step w (WriteNext p major minor request bytes))
 others-commute kept q w (WriteRandom p major minor offset request bytes) g a e =
     screened kept q w (devices.writeRandom (w .terminal) p major minor offset request bytes (w .screens)) _
-    (writeRandom-masked kept q (w .terminal) p major minor offset request bytes (w .screens)) (step-plan w (WriteRandom p major minor offset request bytes))
+    (writeRandom-masked kept q (w .terminal) p major minor offset request bytes (w .screens)) (plan-step w (WriteRandom p major minor offset request bytes))
 others-commute kept q w (Load p selector offset buffer) g a e =
     filled kept q w (memory.load (w .terminal) (w .permissions) p selector offset (w .arena) buffer) _
-    (load-masked kept q (w .terminal) (w .permissions) p selector offset (w .arena) buffer) (step-plan w (Load p selector offset buffer))
+    (load-masked kept q (w .terminal) (w .permissions) p selector offset (w .arena) buffer) (plan-step w (Load p selector offset buffer))
 others-commute kept q w (Store p selector offset bytes) g a e =
     stored kept q w (memory.store (w .terminal) (w .permissions) p selector offset bytes (w .arena)) _
-    (store-masked kept q (w .terminal) (w .permissions) p selector offset bytes (w .arena)) (step-plan w (Store p selector offset bytes))
+    (store-masked kept q (w .terminal) (w .permissions) p selector offset bytes (w .arena)) (plan-step w (Store p selector offset bytes))
 others-commute kept q w (Flush p selector taken) g a e = flush-commutes kept q w g a p selector taken
 others-commute kept q w (Login p name password) g a e =
     answered kept q w (accounts.login (w .terminal) p name password (w .tables)) _
-    (login-other kept q w g a p e name password) (step-plan w (Login p name password))
+    (login-other kept q w g a p e name password) (plan-step w (Login p name password))
 others-commute kept q w (Who p buffer) g a e =
     filled kept q w (accounts.who (w .terminal) p (w .tables) buffer) _
-    (who-other kept q w g a p e buffer) (step-plan w (Who p buffer))
+    (who-other kept q w g a p e buffer) (plan-step w (Who p buffer))
 others-commute kept q w (Logout p) g a e =
     answered kept q w (accounts.logout (w .terminal) p) _
-    (logout-masked kept q (w .terminal) p) (step-plan w (Logout p))
+    (logout-masked kept q (w .terminal) p) (plan-step w (Logout p))
 others-commute kept q w (SetPassword p password taken) g a e = set-commutes kept q w g a p password taken e
 others-commute kept q w (Shutdown p message) g a e =
     screened kept q w (stops.shutdown (w .terminal) p message (w .screens)) _
-    (shutdown-masked kept q (w .terminal) p message (w .screens)) (step-plan w (Shutdown p message))
+    (shutdown-masked kept q (w .terminal) p message (w .screens)) (plan-step w (Shutdown p message))
 others-commute kept q w (Powerdown p) g a e =
     screened kept q w (stops.powerdown (w .terminal) p (w .screens)) _
-    (powerdown-masked kept q (w .terminal) p (w .screens)) (step-plan w (Powerdown p))
+    (powerdown-masked kept q (w .terminal) p (w .screens)) (plan-step w (Powerdown p))
 others-commute kept q w (Configuration p buffer) g a e =
     filled kept q w (memory.configuration (w .terminal) (w .permissions) p (w .store) buffer) _
-    (configuration-masked kept q w g a p buffer) (step-plan w (Configuration p buffer))
+    (configuration-masked kept q w g a p buffer) (plan-step w (Configuration p buffer))
 others-commute kept q w (Key byte) g a e =
     moved kept q w (events.key byte (w .terminal)) _
-    (key-masked kept q byte (w .terminal)) (step-plan w (Key byte))
+    (key-masked kept q byte (w .terminal)) (plan-step w (Key byte))
 others-commute kept q w Attention g a e =
     moved kept q w (events.attention (w .terminal)) _
-    (attention-masked kept q (w .terminal)) (step-plan w Attention)
+    (attention-masked kept q (w .terminal)) (plan-step w Attention)
 others-commute kept q w (Fault p device set) g a e =
     moved kept q w (events.fault p device set (w .terminal)) _
-    (fault-masked kept q p device set (w .terminal)) (step-plan w (Fault p device set))
+    (fault-masked kept q p device set (w .terminal)) (plan-step w (Fault p device set))

@@ -1,7 +1,6 @@
 -- Demand 3: what two terminals that differ only in one partition's passwords have in common.
 pub mod Mask
 pub mod Veil
-pub mod Plans
 pub mod Worlds
 pub mod Devices
 pub mod Stops

@@ -14,14 +14,14 @@ use Rattle.steps.specs.World.Move.{Login, SetPassword}
 use Rattle.good.specs.Good.{Good}
 use Rattle.silence.specs.Mask.{mask, maskResult, own}
 use Rattle.silence.specs.Veil.{masked-plan}
-use Rattle.silence.specs.Plans.{step-plan}
+use Rattle.good.specs.Stays.{plan-step}
 use Rattle.silence.specs.Own.{own-invisible}
 use Rattle.silence.specs.Commute.{others-commute}
 
 -- ---- who is active stays so
 
 pub active-after : (w : World) (m : Move) (q : ℕ) → isActive (w .terminal .plan) q ≡ true → isActive (step w m .world .terminal .plan) q ≡ true
-active-after w m q a = ap (λ (plan : Plan). isActive plan q) (step-plan w m) ∙ a
+active-after w m q a = ap (λ (plan : Plan). isActive plan q) (plan-step w m) ∙ a
 
 -- worlds that look alike have the same plan
 pub same-plan : (kept : Bool) (q : ℕ) (w v : World) → mask kept q w ≡ mask kept q v → w .terminal .plan ≡ v .terminal .plan

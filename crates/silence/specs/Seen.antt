@@ -14,7 +14,7 @@ use Rattle.state.specs.declared.Plan.{Plan}
 use Rattle.state.specs.Parts.{seatAt, withLogin, withPart}
 use Rattle.passwords.specs.PasswordFile.{maskDigests}
 use Rattle.passwords.specs.MaskLaws.{mask-length}
-use Rattle.terminal.specs.Terminal.{partitionOf, withState, withPartition, withRecord, fileOf}
+use Rattle.terminal.specs.Terminal.{partitionOf, withState, withPartition, withRecord, tableOf, fileOf}
 use Rattle.steps.specs.World.{World}
 use Rattle.silence.specs.Mask.{mask, maskStore, maskTables, maskTerminal}
 use Rattle.silence.specs.Veil.{veiled, masked-part}
@@ -106,3 +106,8 @@ module _ (kept : Bool) (q : ℕ) (w v : World) (e : mask kept q w ≡ mask kept 
   unfolding fileOf
   same-but-digests =
       sym (part-onPart-same maskDigests mask-length _ _ (w .store)) ∙ ap (part _ _) seen-store ∙ part-onPart-same maskDigests mask-length _ _ (v .store)
+
+  pub same-table-but-digests : maskDigests (tableOf (w .terminal) q (w .tables)) ≡ maskDigests (tableOf (w .terminal) q (v .tables))
+  unfolding tableOf
+  same-table-but-digests =
+      sym (part-onPart-same maskDigests mask-length _ _ (w .tables)) ∙ ap (part _ _) seen-tables ∙ part-onPart-same maskDigests mask-length _ _ (v .tables)

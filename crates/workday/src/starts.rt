@@ -1,5 +1,4 @@
 // Starting the terminal of this program.
-use super::say;
 use terminal::Started;
 use terminal::Terminal;
 
