@@ -1,0 +1,3 @@
+-- Laws that the walks by hand of `reader`'s functions share.
+mod Owned
+mod Walks
