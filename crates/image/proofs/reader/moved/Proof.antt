@@ -25,8 +25,8 @@ use denote.Exit.{yes}
 use denote.Triple.Entry.{Vals, alive, onEntry}
 use denote.Triple.Walked.{says, Stays, stay-none, walkOf, goes-none, ends-at, walked}
 use Rattle.image.specs.declared.reader.Reader.{Reader}
-use Rattle.image.proofs.Owned.{Row, readerValues, tells-values, typed, at-place, OwnsReader, OwnsImage, reader-twice, taken-apart, put-together}
-use Rattle.image.proofs.Walks.{closed}
+use Rattle.image.proofs.reader.Owned.{Row, readerValues, tells-values, typed, at-place, OwnsReader, OwnsImage, reader-twice, taken-apart, put-together}
+use Rattle.image.proofs.reader.Walks.{closed}
 use Rattle.image.proofs.reader.Reader.Laws as T′
 use Rattle.image.proofs.reader.moved.Key.{name as #moved}
 use Rattle.image.proofs.reader.moved as moved

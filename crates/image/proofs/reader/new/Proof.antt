@@ -27,8 +27,8 @@ use denote.Slice.{ShrSlice, slice-vals, shr-slice-tells, shr-slice-lawful}
 use denote.Exit.{yes}
 use denote.Triple.Entry.{alive, onEntry}
 use denote.Triple.Walked.{says, Stays, stay-none-slice, walkOf, goes-none-slice, ends-at, walked}
-use Rattle.image.proofs.Owned.{imageValue, at-place, OwnsImage, image-twice, put-together}
-use Rattle.image.proofs.Walks.{closed}
+use Rattle.image.proofs.reader.Owned.{imageValue, at-place, OwnsImage, image-twice, put-together}
+use Rattle.image.proofs.reader.Walks.{closed}
 use Rattle.image.proofs.reader.Reader.Laws as T′
 use Rattle.image.proofs.reader.new.Key.{name as #new}
 use Rattle.image.proofs.reader.new as new

@@ -37,8 +37,8 @@ use denote.Triple.Walked.{says, Stays, stay-none, walkOf, goes-none, ends-at, wa
 use Rattle.image.specs.Items.{itemAt}
 use Rattle.image.specs.declared.reader.Reader.{Reader}
 use Rattle.image.specs.declared.item.Item as Declared
-use Rattle.image.proofs.Owned.{Row, readerValues, tells-values, typed, imageValue, OwnsReader, OwnsImage, reader-twice, taken-apart}
-use Rattle.image.proofs.Walks.{unasked, answered, framed, closed}
+use Rattle.image.proofs.reader.Owned.{Row, readerValues, tells-values, typed, imageValue, OwnsReader, OwnsImage, reader-twice, taken-apart}
+use Rattle.image.proofs.reader.Walks.{unasked, answered, framed, closed}
 use Rattle.image.proofs.reader.Reader.Laws as T′
 use Rattle.image.proofs.item.Item as I
 use Rattle.image.proofs.item.Item.Laws as I′
@@ -135,8 +135,7 @@ next-spec 𝓤 H 𝓜 𝓖 𝓡 =
     let W : Given 𝓤 H A = givenOf 𝓤 H 𝓜 𝓖 in
     let C : Calls 𝓤 H = tables 𝓤 H 𝓜 𝓡 code.env .C in
     let Λ : Loops 𝓤 H = tables 𝓤 H 𝓜 𝓡 code.env .Λ in
-    let item-at-met : Triple 𝓤 (C #item-at) (ItemAt 𝓤 H A (𝓜 .mem) (𝓡 .run)) =
-    cited 𝓤 H (ItemAt 𝓤 H A (𝓜 .mem) (𝓡 .run)) 𝓜 𝓡 code.env #item-at item-at-called.routine code.calls-image·item·item-at (item-at-proved.met 𝓤 H 𝓜 𝓖 𝓡) in
+    let item-at-met : Triple 𝓤 (C #item-at) (ItemAt 𝓤 H A (𝓜 .mem) (𝓡 .run)) = cited 𝓤 H (ItemAt 𝓤 H A (𝓜 .mem) (𝓡 .run)) 𝓜 𝓡 code.env #item-at item-at-called.routine code.calls-image·item·item-at (item-at-proved.met 𝓤 H 𝓜 𝓖 𝓡) in
     closed 𝓤 H 𝓜 𝓖 𝓡 code.env #next code.function (code.unfolded 𝓤 H 𝓜 𝓡) next.ended kept (goes-none 𝓤 H A W 1 Row yes (λ κs x f. refl), tt) (next.clauses 𝓤 H A (𝓜 .mem) (𝓡 .run))
     (walked 𝓤 H A next.ended kept (next.clauses 𝓤 H A (𝓜 .mem) (𝓡 .run)) (WpFn 𝓤 H C Λ code.function)
     (λ κs. (readerValues κs, tt)) (λ κs. (tells-values κs, tt))

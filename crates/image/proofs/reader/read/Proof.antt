@@ -44,8 +44,8 @@ use Rattle.rows.proofs.Cursor.Laws as P′
 use Rattle.image.specs.Items.{itemAt}
 use Rattle.image.specs.declared.reader.Reader.{Reader}
 use Rattle.image.specs.declared.item.Item as Declared
-use Rattle.image.proofs.Owned.{imageValue, OwnsImage, OwnsReader, typed-local, image-twice}
-use Rattle.image.proofs.Walks.{unasked, answered, framed, closed}
+use Rattle.image.proofs.reader.Owned.{imageValue, OwnsImage, OwnsReader, typed-local, image-twice}
+use Rattle.image.proofs.reader.Walks.{unasked, answered, framed, closed}
 use Rattle.image.proofs.item.Item as I
 use Rattle.image.proofs.item.Item.Laws as I′
 use Rattle.image.proofs.reader.new as new

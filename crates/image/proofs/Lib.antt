@@ -1,3 +1,0 @@
--- Laws that the walks by hand of `reader`'s functions share.
-mod Owned
-mod Walks
