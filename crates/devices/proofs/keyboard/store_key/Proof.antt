@@ -1,6 +1,8 @@
 -- `devices::keyboard::store_key` meets its contract: a walk of its MIR by hand, since a reference to a struct is not covered.
 -- The borrow is opened, which gives the queue's cell. The key goes into one element of the cell's array and the count into its second field, and the
 -- borrow is closed at the queue with the key behind the others.
+-- In the comments on the context, "obs" and "auth" are the two halves of the ghost value that says what lies behind the reference, "the token" is
+-- the right to use the reference's lifetime, and _0 to _6 are the locals of the MIR.
 -- Assumes nothing.
 use mathlib.Core.Path.{_≡_, refl, sym}
 use Prim.Native.Nat.{ℕ, _<_, _^_, _+_}
@@ -45,7 +47,7 @@ use Rattle.octets.specs.WriteLaws.{writeAt-one}
 use Rattle.devices.specs.Queue.{queueAdd}
 use Rattle.devices.specs.declared.keyboard.Keyboard.{Keyboard}
 use Rattle.devices.proofs.Element.{elem}
-use Rattle.devices.proofs.QueueCell.{vals, cells, cells-set, held-fits, all-cells, inside, after, after-lies, makes}
+use Rattle.devices.proofs.QueueCell.{val, vals, cells, cells-set, held-fits, all-cells, inside, after, after-lies, makes}
 use Rattle.devices.proofs.keyboard.Keyboard as T
 use Rattle.devices.proofs.keyboard.Keyboard.Laws as T′
 use Rattle.devices.proofs.keyboard.store_key.Key.{name as #store-key}
@@ -121,7 +123,9 @@ module _ {M : Type 1} (𝓤 : URA M) (H : Heap 𝓤) (A : Atoms 𝓤) (W : Given
         assigns ! (of-opd ! (load ! (from ! (stop !)) (look ! 5 refl))) (from ! (hop ! (look ! 15 refl) (fld ! refl (stop !))))
         (store-in ! 0 (sub ! 1 refl (whole !)) (tt, record { fits = omega (arith, room) })) $
         assigns ! (of-opd ! (unit-lit !)) (from ! (stop !)) (init ! 17 refl (tt, tt)) $
-        -- what the old queue owned is let go, what the new one owns is made, and the borrow is closed: the cell has to hold `after h key` by now
+        -- by now the cell holds `after h key`: a step that changes nothing, so that a wrong store is refused here
+        rewrite ! 0 (λ (v : Val). ‵ (cellAt fullShare (T.the-row .mir) (v ∷ []) b o)) {x = val (after h key)} refl refl $
+        -- what the old queue owned is let go, what the new one owns is made, and the borrow is closed
         move ! (1 ∷ []) $ drop ! $ owned ! T.the-row (Is T.the-row) (makes 𝓤 H A) (after h key) _ (after-lies h key fits room is) $ move ! (1 ∷ 0 ∷ []) $
         closes ! tt T.the-row (after h key) (vals (after h key)) b o $
         -- 0 obs, 1 the borrow, 2 the token, then 3 _6 up to 15 _0: the locals are room again, and are freed from _0 on
