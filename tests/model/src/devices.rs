@@ -104,7 +104,12 @@ impl Terminal {
         number_and_count(self.take_keys(partition, request, buffer))
     }
 
-    fn take_keys(&mut self, caller: u32, request: Request, buffer: &mut [u8]) -> Result<usize, u32> {
+    fn take_keys(
+        &mut self,
+        caller: u32,
+        request: Request,
+        buffer: &mut [u8],
+    ) -> Result<usize, u32> {
         let (running, place) = self.admit(caller, &[])?;
         let partition = running.partition_mut(caller).ok_or(BAD_PARTITION)?;
         let device = request.check(place, partition)?;
@@ -139,10 +144,12 @@ impl Terminal {
             requested: request,
             lent: buffer.len(),
         };
-        let moved = self.random_range(partition, request, offset, screens).map(|range| {
-            buffer[..range.len()].copy_from_slice(&screens[range.clone()]);
-            range.len()
-        });
+        let moved = self
+            .random_range(partition, request, offset, screens)
+            .map(|range| {
+                buffer[..range.len()].copy_from_slice(&screens[range.clone()]);
+                range.len()
+            });
         number_and_count(moved)
     }
 
@@ -166,11 +173,13 @@ impl Terminal {
             requested: request,
             lent: bytes.len(),
         };
-        let moved = self.random_range(partition, request, offset, screens).map(|range| {
-            let count = range.len();
-            screens[range].copy_from_slice(&bytes[..count]);
-            count
-        });
+        let moved = self
+            .random_range(partition, request, offset, screens)
+            .map(|range| {
+                let count = range.len();
+                screens[range].copy_from_slice(&bytes[..count]);
+                count
+            });
         number_and_count(moved)
     }
 

@@ -21,7 +21,9 @@ impl Terminal {
         if let Some(running) = self.not_stopped() {
             let count = running.partitions.len();
             let behind = (1..=count).map(|step| (running.focus + step) % count);
-            let next = behind.into_iter().find(|number| running.partitions[*number].is_some());
+            let next = behind
+                .into_iter()
+                .find(|number| running.partitions[*number].is_some());
             running.focus = next.unwrap_or(running.focus);
         }
     }

@@ -24,20 +24,34 @@ impl Running {
     fn list(&self, permissions: &Permissions, partition: usize) -> Vec<Listed> {
         let dsegs = self.dsegs.iter().zip(DSEG_SELECTOR..).zip(permissions);
         let dsegs = dsegs.map(|((dseg, selector), row)| (selector, row, dseg.memory, Some(*dseg)));
-        let msegs = self.msegs.iter().zip(MSEG_SELECTOR..).zip(&permissions[MAX_SEGMENTS..]);
+        let msegs = self
+            .msegs
+            .iter()
+            .zip(MSEG_SELECTOR..)
+            .zip(&permissions[MAX_SEGMENTS..]);
         let msegs = msegs.map(|((memory, selector), row)| (selector, row, *memory, None));
         dsegs
             .chain(msegs)
             .filter(|(_, row, _, _)| matches!(row[partition], RO | RW))
-            .map(|(selector, row, memory, dseg)| {
-                Listed { selector, writable: row[partition] == RW, memory, dseg }
+            .map(|(selector, row, memory, dseg)| Listed {
+                selector,
+                writable: row[partition] == RW,
+                memory,
+                dseg,
             })
             .collect()
     }
 
-    fn find(&self, permissions: &Permissions, partition: usize, selector: u32) -> Result<Listed, u32> {
+    fn find(
+        &self,
+        permissions: &Permissions,
+        partition: usize,
+        selector: u32,
+    ) -> Result<Listed, u32> {
         let list = self.list(permissions, partition);
-        list.into_iter().find(|listed| listed.selector == selector).ok_or(BAD_SELECTOR)
+        list.into_iter()
+            .find(|listed| listed.selector == selector)
+            .ok_or(BAD_SELECTOR)
     }
 }
 
@@ -49,7 +63,10 @@ impl Listed {
         if end > self.memory.length {
             return Err(BAD_OFFSET);
         }
-        Ok(Part { place: self.memory.place + offset, length })
+        Ok(Part {
+            place: self.memory.place + offset,
+            length,
+        })
     }
 }
 
@@ -64,9 +81,13 @@ impl Terminal {
         arena: &[u8],
         buffer: &mut [u8],
     ) -> u32 {
-        let range = self.admit(partition, &[Lent::Arena(arena)]).and_then(|(running, place)| {
-            running.find(permissions, place, selector)?.range(offset, buffer.len())
-        });
+        let range = self
+            .admit(partition, &[Lent::Arena(arena)])
+            .and_then(|(running, place)| {
+                running
+                    .find(permissions, place, selector)?
+                    .range(offset, buffer.len())
+            });
         number(range.map(|range| buffer.copy_from_slice(range.of(arena))))
     }
 
@@ -80,13 +101,15 @@ impl Terminal {
         arena: &mut [u8],
         bytes: &[u8],
     ) -> u32 {
-        let range = self.admit(partition, &[Lent::Arena(arena)]).and_then(|(running, place)| {
-            let listed = running.find(permissions, place, selector)?;
-            if !listed.writable {
-                return Err(NO_WRITE);
-            }
-            listed.range(offset, bytes.len())
-        });
+        let range = self
+            .admit(partition, &[Lent::Arena(arena)])
+            .and_then(|(running, place)| {
+                let listed = running.find(permissions, place, selector)?;
+                if !listed.writable {
+                    return Err(NO_WRITE);
+                }
+                listed.range(offset, bytes.len())
+            });
         number(range.map(|range| range.of_mut(arena).copy_from_slice(bytes)))
     }
 
@@ -121,12 +144,14 @@ impl Terminal {
         store: &[u8],
         buffer: &mut [u8],
     ) -> u32 {
-        let list = self.admit(partition, &[Lent::Store(store)]).and_then(|(running, place)| {
-            if buffer.len() < DATABASE {
-                return Err(BAD_BUFFER);
-            }
-            Ok(running.list(permissions, place))
-        });
+        let list = self
+            .admit(partition, &[Lent::Store(store)])
+            .and_then(|(running, place)| {
+                if buffer.len() < DATABASE {
+                    return Err(BAD_BUFFER);
+                }
+                Ok(running.list(permissions, place))
+            });
         number(list.map(|list| {
             let database = database(partition, &list, store);
             buffer[..DATABASE].copy_from_slice(&database);
@@ -136,7 +161,12 @@ impl Terminal {
 
 /// Writes a file from its first byte. The store says beforehand how many bytes it will take; if
 /// they are too few, those are written all the same.
-pub(crate) fn write_file(store: &mut [u8], file: Part, bytes: &[u8], taken: u32) -> Result<(), u32> {
+pub(crate) fn write_file(
+    store: &mut [u8],
+    file: Part,
+    bytes: &[u8],
+    taken: u32,
+) -> Result<(), u32> {
     let written = file.length.min(taken as usize);
     file.of_mut(store)[..written].copy_from_slice(&bytes[..written]);
     if written < file.length {

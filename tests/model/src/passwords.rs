@@ -53,9 +53,19 @@ fn user_of(record: Record) -> Option<User> {
     if !(33..=64).contains(&length) {
         return None;
     }
-    let digest = Part { place, length: DIGEST };
-    let name = Part { place: digest.end(), length: length - DIGEST };
-    Some(User { kind: record.kind, digest, name })
+    let digest = Part {
+        place,
+        length: DIGEST,
+    };
+    let name = Part {
+        place: digest.end(),
+        length: length - DIGEST,
+    };
+    Some(User {
+        kind: record.kind,
+        digest,
+        name,
+    })
 }
 
 #[cfg(test)]

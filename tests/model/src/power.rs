@@ -14,13 +14,15 @@ impl Terminal {
 
     /// Switches off where the power can be; elsewhere it is a shutdown without a message.
     pub fn powerdown(&mut self, partition: u32, screens: &mut [u8]) -> u32 {
-        let soft = self.admit(partition, &[Lent::Screens(screens)]).map(|(running, _)| {
-            if running.soft {
-                running.stopped = true;
-                running.off = true;
-            }
-            running.soft
-        });
+        let soft = self
+            .admit(partition, &[Lent::Screens(screens)])
+            .map(|(running, _)| {
+                if running.soft {
+                    running.stopped = true;
+                    running.off = true;
+                }
+                running.soft
+            });
         match soft {
             Ok(true) => number(Ok(())),
             Ok(false) => number(self.halt(partition, &[], screens)),

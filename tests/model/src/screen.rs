@@ -9,12 +9,17 @@ pub const BLANK: u8 = b' ';
 
 /// Where a partition's screen stands in the screen area.
 pub fn part(partition: usize) -> Part {
-    Part { place: CELLS * partition, length: CELLS }
+    Part {
+        place: CELLS * partition,
+        length: CELLS,
+    }
 }
 
 /// Writes bytes one behind the other, as next-write does, and hands back the new cursor.
 pub fn put_all(cells: &mut [u8], cursor: usize, bytes: &[u8]) -> usize {
-    bytes.iter().fold(cursor, |cursor, byte| put(cells, cursor, *byte))
+    bytes
+        .iter()
+        .fold(cursor, |cursor, byte| put(cells, cursor, *byte))
 }
 
 /// Writes one byte at the cursor and hands back where the cursor goes.

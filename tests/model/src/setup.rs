@@ -48,7 +48,10 @@ pub fn read(text: &[u8], active: &[bool], files: &Files) -> Result<Setup, Refusa
             Some(statement) => judge.judge(statement),
             None => Err(SYNTAX),
         };
-        judged.map_err(|number| Refusal { number, line: next.line })?;
+        judged.map_err(|number| Refusal {
+            number,
+            line: next.line,
+        })?;
     }
     judge.every_active_partition_has_code()?;
     Ok(judge.setup)
@@ -83,12 +86,18 @@ impl<'a> Judge<'a> {
         self.enter_stage(&statement)?;
         match statement {
             Statement::Code { partition, path } => self.code(partition, path),
-            Statement::Dseg { index, path, host, permissions } => {
-                self.dseg(index, path, host, permissions)
-            }
-            Statement::Mseg { index, size, host, permissions } => {
-                self.mseg(index, size, host, permissions)
-            }
+            Statement::Dseg {
+                index,
+                path,
+                host,
+                permissions,
+            } => self.dseg(index, path, host, permissions),
+            Statement::Mseg {
+                index,
+                size,
+                host,
+                permissions,
+            } => self.mseg(index, size, host, permissions),
         }
     }
 
@@ -114,7 +123,13 @@ impl<'a> Judge<'a> {
         Ok(())
     }
 
-    fn dseg(&mut self, index: u32, path: Vec<u8>, host: u32, permissions: Vec<u8>) -> Result<(), u32> {
+    fn dseg(
+        &mut self,
+        index: u32,
+        path: Vec<u8>,
+        host: u32,
+        permissions: Vec<u8>,
+    ) -> Result<(), u32> {
         self.segment(index, self.setup.dsegs.len(), host)?;
         let known = self.dseg_paths.contains(&path) || self.code_paths.contains(&path);
         refuse_if(known, DUP_PATH)?;
@@ -131,20 +146,26 @@ impl<'a> Judge<'a> {
         self.segment(index, self.setup.msegs.len(), host)?;
         refuse_if(!(1..=MAX_MSEG_SIZE).contains(&size), BAD_SIZE)?;
         refuse_if(permissions.len() != self.active.len(), BAD_PERMS)?;
-        let writable = permissions.iter().zip(self.active).any(|(p, active)| *active && *p == RW);
+        let writable = permissions
+            .iter()
+            .zip(self.active)
+            .any(|(p, active)| *active && *p == RW);
         refuse_if(!writable, BAD_PERMS)?;
-        self.setup.msegs.push(Mseg { size: size as usize, permissions });
+        self.setup.msegs.push(Mseg {
+            size: size as usize,
+            permissions,
+        });
         Ok(())
     }
 
-    /// 405 to 407, alike for both kinds of segment. A passive host is fine.
+    /// Refusals 405 to 407, alike for both kinds of segment. A passive host is fine.
     fn segment(&self, index: u32, declared: usize, host: u32) -> Result<(), u32> {
         refuse_if(declared >= MAX_SEGMENTS, TOO_MANY)?;
         refuse_if(index as usize != declared, BAD_INDEX)?;
         refuse_if(host as usize >= self.active.len(), BAD_PARTITION)
     }
 
-    /// 410 and 411: the directory of the password files is closed to set-up texts.
+    /// Refusals 410 and 411: the directory of the password files is closed to set-up texts.
     fn file(&self, path: &[u8]) -> Result<File, u32> {
         refuse_if(path.starts_with(b"/scos/"), RESERVED)?;
         self.files.find(path).ok_or(NO_FILE)
@@ -155,7 +176,11 @@ impl<'a> Judge<'a> {
     }
 
     fn every_active_partition_has_code(&self) -> Result<(), Refusal> {
-        let missing = self.active.iter().zip(&self.has_code).any(|(active, code)| *active && !code);
+        let missing = self
+            .active
+            .iter()
+            .zip(&self.has_code)
+            .any(|(active, code)| *active && !code);
         refuse_if(missing, NO_CODE).map_err(Refusal::without_line)
     }
 }
@@ -174,7 +199,9 @@ mod tests {
 
     /// Judges a text for partitions A, A, P over an image with the files /a to /z, each empty.
     fn judged(text: &str) -> (u32, usize) {
-        let image: Vec<u8> = (b'a'..=b'z').flat_map(|c| [3, 0, 0, 0, 1, 0, 2, b'/', c]).collect();
+        let image: Vec<u8> = (b'a'..=b'z')
+            .flat_map(|c| [3, 0, 0, 0, 1, 0, 2, b'/', c])
+            .collect();
         let files = Files::walk(&image).unwrap();
         match read(text.as_bytes(), &[true, true, false], &files) {
             Ok(_) => (0, 0),
@@ -193,15 +220,24 @@ mod tests {
         assert_eq!(judged(CODE), (0, 0));
         assert_eq!(judged("CODE[1]=/z;CODE[0]=/z;"), (0, 0));
         assert_eq!(judged_behind_code("MSEG[0]={1,0,RW,NA,NA};"), 0);
-        assert_eq!(judged_behind_code("DSEG[0]={/a,0,RW,NA,RW};MSEG[0]={16MB,0,NA,RW,NA};"), 0);
+        assert_eq!(
+            judged_behind_code("DSEG[0]={/a,0,RW,NA,RW};MSEG[0]={16MB,0,NA,RW,NA};"),
+            0
+        );
     }
 
     #[test]
     fn order_and_code() {
         assert_eq!(judged(""), (414, 0));
         assert_eq!(judged("CODE[0]=/a;"), (414, 0));
-        assert_eq!(judged("CODE[0]=/a;\nMSEG[0]={1,0,RW,NA,NA};\nCODE[1]=/a;"), (404, 3));
-        assert_eq!(judged_behind_code("MSEG[0]={1,0,RW,NA,NA};DSEG[0]={/a,0,RW,NA,NA};"), 404);
+        assert_eq!(
+            judged("CODE[0]=/a;\nMSEG[0]={1,0,RW,NA,NA};\nCODE[1]=/a;"),
+            (404, 3)
+        );
+        assert_eq!(
+            judged_behind_code("MSEG[0]={1,0,RW,NA,NA};DSEG[0]={/a,0,RW,NA,NA};"),
+            404
+        );
         assert_eq!(judged("CODE[2]=/a;"), (407, 1));
         assert_eq!(judged("CODE[3]=/a;"), (407, 1));
         assert_eq!(judged("CODE[0]=/a;\n\nCODE[0]=/scos/x;"), (408, 3));
@@ -217,8 +253,14 @@ mod tests {
             .map(|n| format!("DSEG[{n}]={{/{},0,RW,NA,NA}};", char::from(b'a' + n)))
             .collect();
         assert_eq!(judged_behind_code(&sixteen), 0);
-        assert_eq!(judged_behind_code(&format!("{sixteen}DSEG[16]={{/q,0,RW,NA,NA}};")), 405);
-        assert_eq!(judged_behind_code(&format!("{sixteen}DSEG[9]={{/q,9,RW}};")), 405);
+        assert_eq!(
+            judged_behind_code(&format!("{sixteen}DSEG[16]={{/q,0,RW,NA,NA}};")),
+            405
+        );
+        assert_eq!(
+            judged_behind_code(&format!("{sixteen}DSEG[9]={{/q,9,RW}};")),
+            405
+        );
         assert_eq!(judged_behind_code("DSEG[0]={/a,0,NA,RW,RW};"), 413);
         assert_eq!(judged_behind_code("DSEG[0]={/a,2,RW,RW,NA};"), 0);
         assert_eq!(judged_behind_code("MSEG[0]={0,0,RW,NA,NA};"), 412);

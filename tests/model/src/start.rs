@@ -68,8 +68,16 @@ fn plan(
     }
     let partitions = partitions(&password_files, store)?;
     let (dsegs, msegs) = segments(&setup);
-    let running =
-        Running { partitions, dsegs, msegs, soft, focus, stopped: false, off: false, lengths };
+    let running = Running {
+        partitions,
+        dsegs,
+        msegs,
+        soft,
+        focus,
+        stopped: false,
+        off: false,
+        lengths,
+    };
     Ok((setup, running))
 }
 
@@ -94,10 +102,14 @@ fn find_password_files(active: &[bool], files: &Files) -> Vec<PasswordFile> {
     active.iter().enumerate().map(find).collect()
 }
 
-/// 415. A password file counts with its size even where 416 is going to refuse it, and a missing
-/// one with 0. Every partition has a screen, a passive one too.
+/// Refusal 415. A password file counts with its size even where 416 is going to refuse it, and a
+/// missing one with 0. Every partition has a screen, a passive one too.
 fn fits(setup: &Setup, password_files: &[PasswordFile], lengths: Lengths) -> bool {
-    let dsegs: u64 = setup.dsegs.iter().map(|dseg| dseg.file.contents.length as u64).sum();
+    let dsegs: u64 = setup
+        .dsegs
+        .iter()
+        .map(|dseg| dseg.file.contents.length as u64)
+        .sum();
     let msegs: u64 = setup.msegs.iter().map(|mseg| mseg.size as u64).sum();
     let tables: u64 = password_files
         .iter()
@@ -111,7 +123,7 @@ fn fits(setup: &Setup, password_files: &[PasswordFile], lengths: Lengths) -> boo
         && password_files.len() * screen::CELLS <= lengths.screens
 }
 
-/// 416, and each active partition's first state. The tables stand one behind the other.
+/// Refusal 416, and each active partition's first state. The tables stand one behind the other.
 fn partitions(files: &[PasswordFile], store: &[u8]) -> Result<Vec<Option<Partition>>, Refusal> {
     let mut free = 0;
     let mut partitions = Vec::new();
@@ -121,7 +133,9 @@ fn partitions(files: &[PasswordFile], store: &[u8]) -> Result<Vec<Option<Partiti
                 partitions.push(None);
                 continue;
             }
-            PasswordFile::Found(contents) if passwords::well_formed(contents.of(store)) => *contents,
+            PasswordFile::Found(contents) if passwords::well_formed(contents.of(store)) => {
+                *contents
+            }
             _ => return Err(Refusal::without_line(BAD_PASSWORDS)),
         };
         let table = next_part(&mut free, contents.length);
@@ -149,22 +163,35 @@ fn segments(setup: &Setup) -> (Vec<Dseg>, Vec<Part>) {
     for declared in &setup.dsegs {
         let contents = declared.file.contents;
         let memory = next_part(&mut free, contents.length);
-        dsegs.push(Dseg { memory, contents, path: declared.file.path });
+        dsegs.push(Dseg {
+            memory,
+            contents,
+            path: declared.file.path,
+        });
     }
-    let msegs = setup.msegs.iter().map(|mseg| next_part(&mut free, mseg.size)).collect();
+    let msegs = setup
+        .msegs
+        .iter()
+        .map(|mseg| next_part(&mut free, mseg.size))
+        .collect();
     (dsegs, msegs)
 }
 
 /// The next part of an area that is filled without gaps.
 fn next_part(free: &mut usize, length: usize) -> Part {
-    let part = Part { place: *free, length };
+    let part = Part {
+        place: *free,
+        length,
+    };
     *free = part.end();
     part
 }
 
 fn fill_arena(running: &Running, store: &[u8], arena: &mut [u8]) {
     for dseg in &running.dsegs {
-        dseg.memory.of_mut(arena).copy_from_slice(dseg.contents.of(store));
+        dseg.memory
+            .of_mut(arena)
+            .copy_from_slice(dseg.contents.of(store));
     }
     for mseg in &running.msegs {
         mseg.of_mut(arena).fill(0);
@@ -173,7 +200,10 @@ fn fill_arena(running: &Running, store: &[u8], arena: &mut [u8]) {
 
 fn fill_tables(running: &Running, store: &[u8], tables: &mut [u8]) {
     for partition in running.partitions.iter().flatten() {
-        partition.table.of_mut(tables).copy_from_slice(partition.password_file.of(store));
+        partition
+            .table
+            .of_mut(tables)
+            .copy_from_slice(partition.password_file.of(store));
     }
 }
 

@@ -54,7 +54,10 @@ fn record_at(area: &[u8], at: usize) -> Option<Record> {
     let kind = u16::from_le_bytes([header[4], header[5]]);
     let place = at + HEADER;
     area.get(place..place.checked_add(length)?)?;
-    Some(Record { kind, payload: Part { place, length } })
+    Some(Record {
+        kind,
+        payload: Part { place, length },
+    })
 }
 
 /// One file of the image: where its path and its contents stand.
@@ -97,8 +100,14 @@ fn file_of(image: &[u8], record: Record) -> Option<File> {
     if !(2..=63).contains(&path_length) || behind.len() < path_length {
         return None;
     }
-    let path = Part { place: record.payload.place + 1, length: path_length };
-    let contents = Part { place: path.end(), length: behind.len() - path_length };
+    let path = Part {
+        place: record.payload.place + 1,
+        length: path_length,
+    };
+    let contents = Part {
+        place: path.end(),
+        length: behind.len() - path_length,
+    };
     Some(File { path, contents })
 }
 
@@ -119,10 +128,22 @@ mod tests {
     fn files_are_found_by_their_whole_path() {
         let image = [file(b"/a", b"one"), file(b"/ab", b"")].concat();
         let files = Files::walk(&image).unwrap();
-        assert_eq!(files.find(b"/a").unwrap().contents, Part { place: 9, length: 3 });
-        assert_eq!(files.find(b"/ab").unwrap().contents, Part { place: 22, length: 0 });
+        assert_eq!(
+            files.find(b"/a").unwrap().contents,
+            Part {
+                place: 9,
+                length: 3
+            }
+        );
+        assert_eq!(
+            files.find(b"/ab").unwrap().contents,
+            Part {
+                place: 22,
+                length: 0
+            }
+        );
         assert_eq!(files.find(b"/ab").unwrap().path.of(&image), b"/ab");
-        assert_eq!(files.find(b"/").is_some(), false);
+        assert!(files.find(b"/").is_none());
     }
 
     #[test]

@@ -6,9 +6,22 @@ use crate::numbers::{NA, RO, RW};
 /// One statement as written, its numbers not yet judged.
 #[derive(Clone, Debug, PartialEq, Eq)]
 pub enum Statement {
-    Code { partition: u32, path: Vec<u8> },
-    Dseg { index: u32, path: Vec<u8>, host: u32, permissions: Vec<u8> },
-    Mseg { index: u32, size: u64, host: u32, permissions: Vec<u8> },
+    Code {
+        partition: u32,
+        path: Vec<u8>,
+    },
+    Dseg {
+        index: u32,
+        path: Vec<u8>,
+        host: u32,
+        permissions: Vec<u8>,
+    },
+    Mseg {
+        index: u32,
+        size: u64,
+        host: u32,
+        permissions: Vec<u8>,
+    },
 }
 
 /// What stands next in the text.
@@ -33,7 +46,12 @@ impl Reader {
     /// Comments go first, before any quote mark is looked for: 003 lets a comment begin anywhere,
     /// and a comment may hold bytes that are faults elsewhere. Line feeds stay, as lines count.
     pub fn new(text: &[u8]) -> Self {
-        Reader { text: without_comments(text), at: 0, lines: 0, counted_to: 0 }
+        Reader {
+            text: without_comments(text),
+            at: 0,
+            lines: 0,
+            counted_to: 0,
+        }
     }
 
     /// The next statement, or nothing at the text's end.
@@ -41,7 +59,10 @@ impl Reader {
         self.skip_space();
         self.peek()?;
         let line = self.line_here();
-        Some(Next { line, statement: self.statement() })
+        Some(Next {
+            line,
+            statement: self.statement(),
+        })
     }
 
     fn line_here(&mut self) -> usize {
@@ -77,7 +98,12 @@ impl Reader {
         self.mark(b'{')?;
         let path = self.path()?;
         let (host, permissions) = self.host_and_permissions()?;
-        Some(Statement::Dseg { index, path, host, permissions })
+        Some(Statement::Dseg {
+            index,
+            path,
+            host,
+            permissions,
+        })
     }
 
     /// `MSEG[index] = { size, partition, permission+ };`
@@ -86,7 +112,12 @@ impl Reader {
         self.mark(b'{')?;
         let size = self.size()?;
         let (host, permissions) = self.host_and_permissions()?;
-        Some(Statement::Mseg { index, size, host, permissions })
+        Some(Statement::Mseg {
+            index,
+            size,
+            host,
+            permissions,
+        })
     }
 
     /// `[number] =`
@@ -231,7 +262,10 @@ mod tests {
     use super::*;
 
     fn first(text: &[u8]) -> Option<Statement> {
-        Reader::new(text).next_statement().expect("a token").statement
+        Reader::new(text)
+            .next_statement()
+            .expect("a token")
+            .statement
     }
 
     fn code_path(path_and_mark: &str) -> Option<Vec<u8>> {
@@ -267,10 +301,30 @@ mod tests {
         assert_eq!(code_path("/a#x;\n;"), Some(b"/a".to_vec()));
         assert_eq!(code_path("/='[x];"), Some(b"/='[x]".to_vec()));
         assert_eq!(code_path("\"/ ,;{}\";"), Some(b"/ ,;{}".to_vec()));
-        for bad in ["/;", "\"\";", "\"/\";", "a;", "\"a/\";", "\"/a\"b;", "\"/a#b\";", "\"/a\tb\";", "\"/a\nb\";"] {
+        for bad in [
+            "/;",
+            "\"\";",
+            "\"/\";",
+            "a;",
+            "\"a/\";",
+            "\"/a\"b;",
+            "\"/a#b\";",
+            "\"/a\tb\";",
+            "\"/a\nb\";",
+        ] {
             assert_eq!(code_path(bad), None, "{bad}");
         }
-        for bad in ["/a\"b;", "/a{;", "/a b;", "/a,;", "/a\r;", "/a\u{7f};", "/a", "\"/a", "\"/a\""] {
+        for bad in [
+            "/a\"b;",
+            "/a{;",
+            "/a b;",
+            "/a,;",
+            "/a\r;",
+            "/a\u{7f};",
+            "/a",
+            "\"/a",
+            "\"/a\"",
+        ] {
             assert_eq!(code_path(bad), None, "{bad}");
         }
         assert!(code_path(&format!("/{};", "x".repeat(62))).is_some());
@@ -308,7 +362,9 @@ mod tests {
     #[test]
     fn lines_are_those_of_first_tokens() {
         let mut reader = Reader::new(b"# \xff one\n\nCODE[0]\n=/a;CODE[1]=/b;\n # x\r\n\r");
-        let next: Vec<_> = std::iter::from_fn(|| reader.next_statement()).take(3).collect();
+        let next: Vec<_> = std::iter::from_fn(|| reader.next_statement())
+            .take(3)
+            .collect();
         assert_eq!(next[0].line, 3);
         assert_eq!(next[1].line, 4);
         assert_eq!((next[2].line, next[2].statement.clone()), (6, None));

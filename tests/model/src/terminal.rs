@@ -76,7 +76,11 @@ impl Terminal {
 
     /// The checks in front of every call, in their order: BAD_STATE, STOPPED, BAD_PARTITION. On
     /// success, the running terminal and the caller's number.
-    pub(crate) fn admit(&mut self, caller: u32, lent: &[Lent]) -> Result<(&mut Running, usize), u32> {
+    pub(crate) fn admit(
+        &mut self,
+        caller: u32,
+        lent: &[Lent],
+    ) -> Result<(&mut Running, usize), u32> {
         let running = self.running.as_mut().ok_or(BAD_STATE)?;
         if !lent.iter().all(|area| running.is_sound(caller, *area)) {
             return Err(BAD_STATE);
@@ -123,7 +127,7 @@ impl Running {
         let Some(users) = passwords::users(partition.table.of(tables)) else {
             return false;
         };
-        partition.login.map_or(true, |place| place < users.len())
+        partition.login.is_none_or(|place| place < users.len())
     }
 }
 

@@ -56,14 +56,18 @@ impl Terminal {
 
     /// Writes the logged-in user's name and a zero, or only a zero.
     pub fn who(&mut self, partition: u32, tables: &[u8], buffer: &mut [u8]) -> u32 {
-        let name = self.admit(partition, &[Lent::Tables(tables)]).and_then(|(running, _)| {
-            if buffer.len() < 33 {
-                return Err(BAD_BUFFER);
-            }
-            let partition = running.partition(partition).ok_or(BAD_PARTITION)?;
-            let table = partition.table.of(tables);
-            Ok(partition.user(tables).map_or(&[][..], |user| user.name.of(table)))
-        });
+        let name = self
+            .admit(partition, &[Lent::Tables(tables)])
+            .and_then(|(running, _)| {
+                if buffer.len() < 33 {
+                    return Err(BAD_BUFFER);
+                }
+                let partition = running.partition(partition).ok_or(BAD_PARTITION)?;
+                let table = partition.table.of(tables);
+                Ok(partition
+                    .user(tables)
+                    .map_or(&[][..], |user| user.name.of(table)))
+            });
         number(name.map(|name| {
             buffer[..name.len()].copy_from_slice(name);
             buffer[name.len()] = 0;
@@ -105,7 +109,9 @@ impl Terminal {
         let user = partition.user(tables).ok_or(NO_LOGIN)?;
         let password = string(password).ok_or(INVALID_STRING)?;
         let mut new_file = partition.table.of(tables).to_vec();
-        user.digest.of_mut(&mut new_file).copy_from_slice(&digest(password));
+        user.digest
+            .of_mut(&mut new_file)
+            .copy_from_slice(&digest(password));
         let written = write_file(store, partition.password_file, &new_file, taken);
         let held = partition.password_file.of(store);
         partition.table.of_mut(tables).copy_from_slice(held);

@@ -22,7 +22,11 @@ pub struct Lines<'a> {
 
 impl<'a> Lines<'a> {
     pub fn new(input: &'a mut dyn BufRead) -> Self {
-        Lines { input, kept: Vec::new(), count: 0 }
+        Lines {
+            input,
+            kept: Vec::new(),
+            count: 0,
+        }
     }
 
     /// How many lines have been read, passed over ones too.
@@ -103,7 +107,10 @@ mod tests {
         let mut lines = Lines::new(&mut input);
         assert_eq!(lines.next_line().unwrap(), Some(Line::TooLong));
         assert_eq!(lines.kept.len(), LIMIT + 1);
-        assert_eq!(lines.next_line().unwrap(), Some(Line::Words(&[b'y'; LIMIT])));
+        assert_eq!(
+            lines.next_line().unwrap(),
+            Some(Line::Words(&[b'y'; LIMIT]))
+        );
         assert_eq!(lines.next_line().unwrap(), Some(Line::PassedOver));
         assert_eq!(lines.next_line().unwrap(), None);
     }

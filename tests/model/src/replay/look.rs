@@ -51,7 +51,9 @@ fn show_partition(number: usize, partition: &Partition) -> String {
         partition.cursor,
         u8::from(partition.keyboard_fault),
         u8::from(partition.screen_fault),
-        partition.login.map_or("-".to_string(), |place| place.to_string()),
+        partition
+            .login
+            .map_or("-".to_string(), |place| place.to_string()),
         hex(&queue),
     )
 }
@@ -63,10 +65,19 @@ pub fn screen(running: Option<&Running>, number: u32, screens: &[u8]) -> String 
     if !active || screens.len() < part.end() {
         return "screen -\n".to_string();
     }
-    part.of(screens).chunks_exact(screen::COLUMNS).map(row).collect()
+    part.of(screens)
+        .chunks_exact(screen::COLUMNS)
+        .map(row)
+        .collect()
 }
 
 fn row(cells: &[u8]) -> String {
-    let shown = |cell: &u8| if (32..=126).contains(cell) { char::from(*cell) } else { '.' };
+    let shown = |cell: &u8| {
+        if (32..=126).contains(cell) {
+            char::from(*cell)
+        } else {
+            '.'
+        }
+    };
     cells.iter().map(shown).chain(['\n']).collect()
 }

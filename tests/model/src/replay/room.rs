@@ -147,15 +147,25 @@ impl Room {
             (b"write_next", [request, bytes]) => {
                 self.write_next(device, number(request)?, lent_bytes(bytes)?)
             }
-            (b"write_random", [offset, request, bytes]) => {
-                self.write_random(device, number(offset)?, number(request)?, lent_bytes(bytes)?)
-            }
+            (b"write_random", [offset, request, bytes]) => self.write_random(
+                device,
+                number(offset)?,
+                number(request)?,
+                lent_bytes(bytes)?,
+            ),
             _ => None,
         }
     }
 
-    fn read_next(&mut self, (p, major, minor): Device, request: u32, mut buffer: Vec<u8>) -> Answer {
-        let (answer, count) = self.terminal.read_next(p, major, minor, request, &mut buffer);
+    fn read_next(
+        &mut self,
+        (p, major, minor): Device,
+        request: u32,
+        mut buffer: Vec<u8>,
+    ) -> Answer {
+        let (answer, count) = self
+            .terminal
+            .read_next(p, major, minor, request, &mut buffer);
         Some(format!("read_next {answer} {count} {}\n", hex(&buffer)))
     }
 
@@ -168,13 +178,16 @@ impl Room {
     ) -> Answer {
         let screens = &self.screens;
         let (answer, count) =
-            self.terminal.read_random(p, major, minor, offset, request, screens, &mut buffer);
+            self.terminal
+                .read_random(p, major, minor, offset, request, screens, &mut buffer);
         Some(format!("read_random {answer} {count} {}\n", hex(&buffer)))
     }
 
     fn write_next(&mut self, (p, major, minor): Device, request: u32, bytes: Vec<u8>) -> Answer {
         let screens = &mut self.screens;
-        let (answer, count) = self.terminal.write_next(p, major, minor, request, &bytes, screens);
+        let (answer, count) = self
+            .terminal
+            .write_next(p, major, minor, request, &bytes, screens);
         Some(format!("write_next {answer} {count}\n"))
     }
 
@@ -186,19 +199,26 @@ impl Room {
         bytes: Vec<u8>,
     ) -> Answer {
         let screens = &mut self.screens;
-        let (answer, count) =
-            self.terminal.write_random(p, major, minor, offset, request, &bytes, screens);
+        let (answer, count) = self
+            .terminal
+            .write_random(p, major, minor, offset, request, &bytes, screens);
         Some(format!("write_random {answer} {count}\n"))
     }
 
     fn use_memory(&mut self, name: &[u8], words: &[&[u8]]) -> Answer {
         match (name, words) {
-            (b"load", [p, selector, offset, length]) => {
-                self.load(number(p)?, number(selector)?, number(offset)?, buffer(length)?)
-            }
-            (b"store", [p, selector, offset, bytes]) => {
-                self.store(number(p)?, number(selector)?, number(offset)?, lent_bytes(bytes)?)
-            }
+            (b"load", [p, selector, offset, length]) => self.load(
+                number(p)?,
+                number(selector)?,
+                number(offset)?,
+                buffer(length)?,
+            ),
+            (b"store", [p, selector, offset, bytes]) => self.store(
+                number(p)?,
+                number(selector)?,
+                number(offset)?,
+                lent_bytes(bytes)?,
+            ),
             (b"flush", [p, selector, taken]) => {
                 self.flush(number(p)?, number(selector)?, number(taken)?)
             }
@@ -209,24 +229,32 @@ impl Room {
 
     fn load(&mut self, p: u32, selector: u32, offset: u32, mut buffer: Vec<u8>) -> Answer {
         let (permissions, arena) = (&self.permissions, &self.arena);
-        let answer = self.terminal.load(permissions, p, selector, offset, arena, &mut buffer);
+        let answer = self
+            .terminal
+            .load(permissions, p, selector, offset, arena, &mut buffer);
         Some(format!("load {answer} {}\n", hex(&buffer)))
     }
 
     fn store(&mut self, p: u32, selector: u32, offset: u32, bytes: Vec<u8>) -> Answer {
         let (permissions, arena) = (&self.permissions, &mut self.arena);
-        let answer = self.terminal.store(permissions, p, selector, offset, arena, &bytes);
+        let answer = self
+            .terminal
+            .store(permissions, p, selector, offset, arena, &bytes);
         Some(format!("store {answer}\n"))
     }
 
     fn flush(&mut self, p: u32, selector: u32, taken: u32) -> Answer {
         let (permissions, arena, store) = (&self.permissions, &self.arena, &mut self.store);
-        let answer = self.terminal.flush(permissions, p, selector, taken, arena, store);
+        let answer = self
+            .terminal
+            .flush(permissions, p, selector, taken, arena, store);
         Some(format!("flush {answer}\n"))
     }
 
     fn configuration(&mut self, p: u32, mut buffer: Vec<u8>) -> Answer {
-        let answer = self.terminal.configuration(&self.permissions, p, &self.store, &mut buffer);
+        let answer = self
+            .terminal
+            .configuration(&self.permissions, p, &self.store, &mut buffer);
         Some(format!("configuration {answer} {}\n", hex(&buffer)))
     }
 
@@ -246,7 +274,9 @@ impl Room {
             (b"set_password", [p, password, taken]) => {
                 let (p, password, taken) = (number(p)?, lent_bytes(password)?, number(taken)?);
                 let (store, tables) = (&mut self.store, &mut self.tables);
-                let answer = self.terminal.set_password(p, &password, taken, store, tables);
+                let answer = self
+                    .terminal
+                    .set_password(p, &password, taken, store, tables);
                 Some(format!("set_password {answer}\n"))
             }
             _ => None,

@@ -33,10 +33,12 @@ pub fn bytes(word: &[u8]) -> Option<Vec<u8>> {
     if word == b"-" {
         return Some(Vec::new());
     }
-    if word.is_empty() || word.len() % 2 != 0 {
+    if word.is_empty() || !word.len().is_multiple_of(2) {
         return None;
     }
-    word.chunks_exact(2).map(|pair| Some(16 * hex_digit(pair[0])? + hex_digit(pair[1])?)).collect()
+    word.chunks_exact(2)
+        .map(|pair| Some(16 * hex_digit(pair[0])? + hex_digit(pair[1])?))
+        .collect()
 }
 
 /// Bytes lent to a call.
@@ -66,7 +68,10 @@ pub fn hex(bytes: &[u8]) -> String {
         return "-".to_string();
     }
     let digit = |value: u8| char::from(b"0123456789abcdef"[usize::from(value)]);
-    bytes.iter().flat_map(|byte| [digit(byte / 16), digit(byte % 16)]).collect()
+    bytes
+        .iter()
+        .flat_map(|byte| [digit(byte / 16), digit(byte % 16)])
+        .collect()
 }
 
 #[cfg(test)]
