@@ -110,9 +110,9 @@ impl Terminal {
         request: Request,
         buffer: &mut [u8],
     ) -> Result<usize, u32> {
-        let (running, place) = self.admit(caller, &[])?;
+        let (running, index) = self.admit(caller, &[])?;
         let partition = running.partition_mut(caller).ok_or(BAD_PARTITION)?;
-        let device = request.check(place, partition)?;
+        let device = request.check(index, partition)?;
         // A screen has nothing to be read in sequence.
         if device == Device::Screen || partition.queue.is_empty() {
             return Err(NO_DATA);
@@ -192,12 +192,12 @@ impl Terminal {
         offset: u32,
         screens: &[u8],
     ) -> Result<std::ops::Range<usize>, u32> {
-        let (running, place) = self.admit(caller, &[Lent::Screens(screens)])?;
+        let (running, index) = self.admit(caller, &[Lent::Screens(screens)])?;
         let partition = running.partition(caller).ok_or(BAD_PARTITION)?;
-        request.check(place, partition)?;
+        request.check(index, partition)?;
         let offset = offset as usize;
         let count = (request.requested as usize).min(CELLS - offset);
-        let first = screen::part(place).place + offset;
+        let first = screen::part(index).place + offset;
         Ok(first..first + count)
     }
 
@@ -230,11 +230,11 @@ impl Terminal {
         bytes: &[u8],
         screens: &mut [u8],
     ) -> Result<usize, u32> {
-        let (running, place) = self.admit(caller, &[Lent::Screens(screens)])?;
+        let (running, index) = self.admit(caller, &[Lent::Screens(screens)])?;
         let partition = running.partition_mut(caller).ok_or(BAD_PARTITION)?;
-        request.check(place, partition)?;
+        request.check(index, partition)?;
         let count = request.requested as usize;
-        let cells = screen::part(place).of_mut(screens);
+        let cells = screen::part(index).of_mut(screens);
         partition.cursor = screen::put_all(cells, partition.cursor, &bytes[..count]);
         Ok(count)
     }

@@ -83,9 +83,9 @@ impl Terminal {
     ) -> u32 {
         let range = self
             .admit(partition, &[Lent::Arena(arena)])
-            .and_then(|(running, place)| {
+            .and_then(|(running, index)| {
                 running
-                    .find(permissions, place, selector)?
+                    .find(permissions, index, selector)?
                     .range(offset, buffer.len())
             });
         number(range.map(|range| buffer.copy_from_slice(range.of(arena))))
@@ -103,8 +103,8 @@ impl Terminal {
     ) -> u32 {
         let range = self
             .admit(partition, &[Lent::Arena(arena)])
-            .and_then(|(running, place)| {
-                let listed = running.find(permissions, place, selector)?;
+            .and_then(|(running, index)| {
+                let listed = running.find(permissions, index, selector)?;
                 if !listed.writable {
                     return Err(NO_WRITE);
                 }
@@ -124,8 +124,8 @@ impl Terminal {
         store: &mut [u8],
     ) -> u32 {
         let lent = [Lent::Store(store), Lent::Arena(arena)];
-        let dseg = self.admit(partition, &lent).and_then(|(running, place)| {
-            let listed = running.find(permissions, place, selector)?;
+        let dseg = self.admit(partition, &lent).and_then(|(running, index)| {
+            let listed = running.find(permissions, index, selector)?;
             let dseg = listed.dseg.ok_or(NOT_MAPPED)?;
             if listed.writable {
                 Ok(dseg)
@@ -146,11 +146,11 @@ impl Terminal {
     ) -> u32 {
         let list = self
             .admit(partition, &[Lent::Store(store)])
-            .and_then(|(running, place)| {
+            .and_then(|(running, index)| {
                 if buffer.len() < DATABASE {
                     return Err(BAD_BUFFER);
                 }
-                Ok(running.list(permissions, place))
+                Ok(running.list(permissions, index))
             });
         number(list.map(|list| {
             let database = database(partition, &list, store);

@@ -32,10 +32,10 @@ impl Terminal {
 
     /// A faulty screen shows nothing, but the terminal stops all the same.
     fn halt(&mut self, caller: u32, message: &[u8], screens: &mut [u8]) -> Result<(), u32> {
-        let (running, place) = self.admit(caller, &[Lent::Screens(screens)])?;
+        let (running, index) = self.admit(caller, &[Lent::Screens(screens)])?;
         let partition = running.partition_mut(caller).ok_or(BAD_PARTITION)?;
         if !partition.screen_fault {
-            let cells = screen::part(place).of_mut(screens);
+            let cells = screen::part(index).of_mut(screens);
             let cursor = screen::put_all(cells, partition.cursor, shown(message));
             partition.cursor = screen::put_all(cells, cursor, NOTICE);
         }

@@ -285,4 +285,37 @@ mod tests {
         let two = "DSEG[0]={/a,0,RW,NA,NA};DSEG[1]={/a,0,RW,NA,NA};";
         assert_eq!(judged_behind_code(two), 409);
     }
+
+    /// The example of 003, section 2, for the partitions that it names.
+    #[test]
+    fn the_example_of_003() {
+        let text = "# filename: pl3_config.txt\n#\n\
+                    CODE[0] = /shell.out;\nCODE[1] = /emergency.out;\n\n\
+                    # Partitions\n# 0 1 2\n\
+                    DSEG[0] = { \"/passwords.txt\", 0, RW, NA, NA };\n\
+                    DSEG[1] = { \"/clearance.txt\", 0, RO, NA, NA };\n\
+                    DSEG[2] = { \"/contacts.txt\", 1, NA, RW, NA };\n\
+                    DSEG[3] = { \"/stuff.txt\", 2, RO, RO, NA };\n\n\
+                    MSEG[0] = { 1MB, 0, RW, NA, NA };\n";
+        let image: Vec<u8> = [
+            "/shell.out",
+            "/emergency.out",
+            "/passwords.txt",
+            "/clearance.txt",
+            "/contacts.txt",
+            "/stuff.txt",
+        ]
+        .iter()
+        .flat_map(|path| {
+            let length = path.len() as u8;
+            [&[length + 1, 0, 0, 0, 1, 0, length], path.as_bytes()].concat()
+        })
+        .collect();
+        let files = Files::walk(&image).unwrap();
+        let setup = read(text.as_bytes(), &[true, true, false], &files)
+            .ok()
+            .unwrap();
+        assert_eq!(setup.dsegs[3].permissions, [1, 1, 0]);
+        assert_eq!(setup.msegs[0].size, 1_048_576);
+    }
 }

@@ -75,7 +75,7 @@ impl Terminal {
     }
 
     /// The checks in front of every call, in their order: BAD_STATE, STOPPED, BAD_PARTITION. On
-    /// success, the running terminal and the caller's number.
+    /// success, the running terminal and the caller's index among its partitions.
     pub(crate) fn admit(
         &mut self,
         caller: u32,
