@@ -3,6 +3,7 @@
 
 pub mod devices;
 pub mod events;
+pub mod generate;
 pub mod memory;
 pub mod numbers;
 pub mod passwords;

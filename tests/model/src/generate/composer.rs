@@ -35,6 +35,8 @@ pub struct Composer {
     pub text_length: usize,
     /// The store or its length was tampered with, so that starting again as it is would fail.
     pub store_spoiled: bool,
+    /// The store was written anew since the last accepted start.
+    pub store_fresh: bool,
 }
 
 impl Composer {
@@ -57,6 +59,7 @@ impl Composer {
             lengths: [4_096, 4_096, 16_000, 0],
             text_length: 0,
             store_spoiled: false,
+            store_fresh: true,
         }
     }
 

@@ -2,7 +2,7 @@
 
 use super::composer::{Composer, ARENA, SCREENS, STORE, TABLES};
 use super::script::hex;
-use super::setup::Setup;
+use super::setup::{needs, Setup};
 
 impl Composer {
     pub fn accepted_start(&mut self) {
@@ -23,6 +23,9 @@ impl Composer {
             return self.accepted_start();
         }
         self.restore_lengths();
+        if let Some(letters) = self.next.as_ref().map(|setup| setup.letters.clone()) {
+            self.announce_partitions(&letters);
+        }
         self.start();
     }
 
@@ -39,8 +42,9 @@ impl Composer {
         }
         let plan = setup.plan.clone();
         // A start on the old store finds the passwords that were set meanwhile.
-        if self.known.accounts.is_empty() {
+        if self.store_fresh {
             self.known.accounts = plan.accounts.clone();
+            self.store_fresh = false;
         }
         self.known.started = true;
         self.known.stopped = false;
@@ -71,7 +75,7 @@ impl Composer {
         self.text_length = setup.text.len();
         self.lengths[STORE] = setup.image.len();
         self.store_spoiled = false;
-        self.known.accounts.clear();
+        self.store_fresh = true;
         self.next = Some(setup);
     }
 
@@ -148,7 +152,8 @@ impl Composer {
         self.append(b"image ", &image);
         self.text_length = setup.text.len();
         self.lengths[STORE] = image.len();
-        self.store_spoiled = altered || self.known.plan.is_none();
+        self.store_spoiled = altered;
+        self.store_fresh = true;
     }
 
     /// A start that is refused for a small thing, while a terminal runs.
@@ -171,18 +176,16 @@ impl Composer {
     }
 
     fn restart_on_short_area(&mut self) {
+        let Some(plan) = &self.known.plan else { return };
+        let (arena, tables, screens) = needs(plan);
+        let needed = [arena, tables, screens];
         let area = self.random.pick(&[TABLES, SCREENS, ARENA]);
-        let length = self.known.lengths_at_start[area];
-        self.set_length(area, self.random_short(length));
+        let area = if needed[area] == 0 { SCREENS } else { area };
+        self.set_length(area, needed[area] - 1);
         self.script.line(b"start");
-        self.known.started = true;
         if self.random.chance(1, 2) {
-            self.set_length(area, length);
+            self.set_length(area, self.known.lengths_at_start[area]);
         }
-    }
-
-    fn random_short(&self, length: usize) -> usize {
-        length.saturating_sub(1)
     }
 
     /// One more statement, or noise, at the end of the text.
