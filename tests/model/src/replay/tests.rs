@@ -468,3 +468,43 @@ fn a_restart_after_a_stop() {
         ],
     );
 }
+
+/// The image of the setting is 9 + 9 + 14 + 12 + 98 + 16 = 158 bytes long, and the contents of /d
+/// stand at 27. Another store of that length goes unnoticed: the kept places count.
+#[test]
+fn a_store_of_the_same_length_goes_unnoticed() {
+    let replaced = format!("clear\nimage {}\n", "00".repeat(158));
+    let lines = started() + "login 0 616e6e00 73656372657400\n" + &replaced;
+    let calls =
+        "flush 0 256 5\nshow\nwho 0 33\nset_password 0 00 0\nwho 0 33\nlogout 0\nlogin 0 00 00\n";
+    let answers = replay(&(lines + calls));
+    let lines: Vec<&str> = answers.lines().collect();
+    assert_eq!(lines[2], "flush 0");
+    assert_eq!(
+        lines[6],
+        "store 5617f7cf7e8ca8f1eb2c7ac7bc69e2250c0fa7d0e043875dae95e8ec4c8106c9"
+    );
+    assert_eq!(lines[11], format!("who 0 616e6e00{}", "a5".repeat(29)));
+    // Nothing is written, so the table becomes the store's zeros, which are no records.
+    assert_eq!(lines[12], "set_password 203");
+    assert_eq!(lines[13], format!("who 216 {}", "a5".repeat(33)));
+    assert_eq!(lines[14..], ["logout 0", "login 216 0"]);
+}
+
+/// A long text of permissions is counted, not wrapped, and the first fault of a text decides.
+#[test]
+fn refusals_with_long_lists_and_early_faults() {
+    let refused = |more: &str| {
+        let begin = "CODE[0]=/a;\n";
+        replay(&(file("/a", "") + &text(begin) + &text(more) + "start\n"))
+    };
+    let many = vec!["RW"; 257].join(",");
+    assert_eq!(
+        refused(&format!("MSEG[0]={{1,0,{many}}};")),
+        "start 413 line 2\n"
+    );
+    assert_eq!(refused("DSEG[0]={/a,0,RW};\n\r"), "start 409 line 2\n");
+    assert_eq!(refused("\nDSEG[0]={/z,0,RW};\r"), "start 411 line 3\n");
+    assert_eq!(refused("\n\nDSEG[0]={\"/z#\",0,RW};"), "start 404 line 4\n");
+    assert_eq!(refused(""), "start 416 line 0\n");
+}
