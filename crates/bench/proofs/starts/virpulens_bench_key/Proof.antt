@@ -3,6 +3,7 @@ use Prim.Native.Nat.{_≤_, _-_}
 use native.Mathlib.Omega.{arith}
 use borrow.Author.Needs.{needs}
 use Rattle.terminal.specs.Events.{key}
+use Rattle.bench.specs.Scene.{opened, none}
 use Rattle.bench.specs.Turns.{turns}
 use Rattle.bench.proofs.Ends.{none-yet, once-more, events-end}
 use Rattle.bench.proofs.starts.virpulens_bench_key.Statement.{statement}
@@ -50,8 +51,9 @@ same-length-4 c = search needs
 
 returns : tie.Need-returns Inv-loop μ-loop
 returns c =
-    let all : c .before .before .before .before .before .loop .i ≡ c .before .before .before .before .before .before .before .before .before .before .before .before .before .before .before .before .before .before .before .before .before .before .before .before .args .turns = omega (arith, c .before .before .before .before .loop-test .left, c .before .before .before .before .before .loop .inv .1) in
-    events-end _ _ _ _ _ _ _ _ _ _ _ _ all (c .before .before .before .before .before .before .before .before .before .before .before .before .before .begun .ensures) (c .before .before .before .before .before .loop .inv .0) (c .before .before .read-next .ensures)
+    let args = c .before .before .before .before .before .before .before .before .before .before .before .before .before .before .before .before .before .before .before .before .before .before .before .before .args in
+    let all : c .before .before .before .before .before .loop .i ≡ args .turns = omega (arith, c .before .before .before .before .loop-test .left, c .before .before .before .before .before .loop .inv .1) in
+    events-end _ _ (opened (args .text .now) (args .store .now) (args .arena .now) (args .tables .now) (args .screens .now) none) _ _ _ _ _ _ _ all (c .before .before .before .before .before .before .before .before .before .before .before .before .before .begun .ensures) (c .before .before .before .before .before .loop .inv .0) (c .before .before .read-next .ensures)
 
 pub virpulens-bench-key-spec : {M : Type 1} → statement M
 virpulens-bench-key-spec =

@@ -3,7 +3,7 @@ use Prim.Native.Nat.{_≤_, _-_}
 use native.Mathlib.Omega.{arith}
 use lib.ListN.{length}
 use borrow.Author.Needs.{needs}
-use Rattle.bench.specs.Scene.{scene}
+use Rattle.bench.specs.Scene.{scene, opened, none}
 use Rattle.bench.specs.Turns.{turns}
 use Rattle.bench.specs.Steps.{startTurn}
 use Rattle.bench.proofs.Ends.{none-yet, once-more, scene-end}
@@ -46,8 +46,9 @@ same-length-3 c = search needs
 
 returns : tie.Need-returns Inv-loop μ-loop
 returns c =
-    let all : c .before .loop .i ≡ c .before .before .before .before .before .before .before .before .before .before .before .before .before .before .before .before .before .before .args .turns = omega (arith, c .loop-test .left, c .before .loop .inv .1 .1 .1 .1) in
-    scene-end _ _ _ _ _ _ all (c .before .before .before .before .before .before .before .before .begun .ensures) (c .before .loop .inv .0)
+    let args = c .before .before .before .before .before .before .before .before .before .before .before .before .before .before .before .before .before .before .args in
+    let all : c .before .loop .i ≡ args .turns = omega (arith, c .loop-test .left, c .before .loop .inv .1 .1 .1 .1) in
+    scene-end _ (opened (args .text .now) (args .store .now) (args .arena .now) (args .tables .now) (args .screens .now) none) _ _ _ _ _ _ _ _ _ _ all (c .before .before .before .before .before .before .before .before .begun .ensures) (c .before .loop .inv .0)
 
 pub virpulens-bench-start-spec : {M : Type 1} → statement M
 virpulens-bench-start-spec =
