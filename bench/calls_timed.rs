@@ -79,15 +79,22 @@ fn measure(rows: &[Row], counted: &str) -> Vec<Times> {
     rows.iter().zip(&measured).map(times).collect()
 }
 
-/// Prints a line with its must, if it has one, and answers whether that holds.
+/// Prints a line with its must, if it has one, and answers whether that holds. Copying that is lost among the noise shows as a dash.
 fn judged(name: &str, t: Times, limit: Option<f64>) -> bool {
     let holds = limit.is_none_or(|limit| t.ours <= limit * t.model);
     let verdict = if holds { "holds" } else { "DOES NOT HOLD" };
     let must = limit.map_or(String::new(), |limit| format!("  at most {limit}: {verdict}"));
-    let (ratio, share) = (t.ours / t.model, 100.0 * t.copying / t.ours);
+    let copying = if t.copying > 0.0 {
+        format!("{:9.0}{:7.0} %", t.copying, 100.0 * t.copying / t.ours)
+    } else {
+        format!("{:>9}{:>9}", "-", "-")
+    };
     println!(
-        "{name:38}{:9.0}{:9.0}{ratio:9.2}{:10.0}{:9.0}{share:7.0} %{must}",
-        t.ours, t.model, t.bytes, t.copying
+        "{name:38}{:9.0}{:9.0}{:9.2}{:10.0}{copying}{must}",
+        t.ours,
+        t.model,
+        t.ours / t.model,
+        t.bytes
     );
     holds
 }

@@ -8,7 +8,7 @@ use std::time::Instant;
 
 /// The turns of a short run; a long one has the row's own number more.
 pub const FEW: u32 = 4;
-pub const ROUNDS: usize = 101;
+pub const ROUNDS: usize = 301;
 
 fn nanoseconds(began: Instant) -> f64 {
     began.elapsed().as_secs_f64() * 1e9
