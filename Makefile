@@ -1,4 +1,4 @@
-# run: a working day, the incident, and the listing of a sample set-up    test: the gate    bench: figures beside C, OpenSSL and memmove
+# run: a working day, the incident, and the listing of a sample set-up    test: the gate    bench: figures beside C, OpenSSL, memmove and the Rust model
 # fuzz-listing: the listing beside a second reader, on 20,000 made-up texts    fmt: lay out every file
 .PHONY: run test bench fuzz-listing fmt rt-is-there
 
@@ -20,6 +20,7 @@ bench: rt-is-there
 	@bench/sha256
 	@bench/devices
 	@bench/listing
+	@bench/calls
 
 fuzz-listing: rt-is-there
 	@command -v python3 >/dev/null || { echo 'make: python3 is not on the PATH, and the second reader needs it'; exit 1; }

@@ -1,0 +1,2 @@
+-- Lemmas that the measured functions' proofs share.
+pub mod Ends

@@ -1,0 +1,75 @@
+use mathlib.Core.Path.{_≡_}
+use Prim.Native.Nat.{_≤_, _-_}
+use native.Mathlib.Omega.{arith}
+use borrow.Author.Needs.{needs}
+use Rattle.terminal.specs.Events.{key}
+use Rattle.bench.specs.Scene.{opened, none}
+use Rattle.bench.specs.Turns.{turns}
+use Rattle.bench.proofs.Ends.{none-yet, once-more, events-end}
+use Rattle.bench.proofs.starts.virpulens_bench_key.Statement.{statement}
+use Rattle.bench.proofs.starts.virpulens_bench_key.Tie as tie
+
+abbrev Inv-loop : tie.InvT-loop
+Inv-loop n text store arena tables screens buffer partition byte request last₀ i₀ last i =
+    (last ≡ turns i (key byte) last₀) × (i ≤ n)
+
+abbrev μ-loop : tie.MeasureT-loop
+μ-loop n text store arena tables screens buffer partition byte request last₀ i₀ last i = n - i
+
+begun-requires : tie.Need-begun-requires Inv-loop μ-loop
+begun-requires c κs = search needs
+
+loop-holds : tie.Need-loop-holds Inv-loop μ-loop
+loop-holds c = (none-yet _ _, omega arith)
+
+key-requires : tie.Need-key-requires Inv-loop μ-loop
+key-requires c κs = search needs
+
+add-i : tie.Need-add-i Inv-loop μ-loop
+add-i c = omega (arith, c .before .loop-test .taken, c .before .before .before .before .before .before .before .before .before .before .before .before .before .before .before .before .before .before .before .before .before .fits .turns)
+
+loop-less : tie.Need-loop-less Inv-loop μ-loop
+loop-less c = omega (arith, c .before .loop-test .taken)
+
+loop-again : tie.Need-loop-again Inv-loop μ-loop
+loop-again c = (once-more _ _ _ _ _ (c .before .before .loop .inv .0) (c .key .ensures), omega (arith, c .before .loop-test .taken))
+
+read-next-requires : tie.Need-read-next-requires Inv-loop μ-loop
+read-next-requires c κs = search needs
+
+same-length : tie.Need-same-length Inv-loop μ-loop
+same-length c = search needs
+
+same-length-2 : tie.Need-same-length-2 Inv-loop μ-loop
+same-length-2 c = search needs
+
+same-length-3 : tie.Need-same-length-3 Inv-loop μ-loop
+same-length-3 c = search needs
+
+same-length-4 : tie.Need-same-length-4 Inv-loop μ-loop
+same-length-4 c = search needs
+
+returns : tie.Need-returns Inv-loop μ-loop
+returns c =
+    let args = c .before .before .before .before .before .before .before .before .before .before .before .before .before .before .before .before .before .before .before .before .before .before .before .before .args in
+    let all : c .before .before .before .before .before .loop .i ≡ args .turns = omega (arith, c .before .before .before .before .loop-test .left, c .before .before .before .before .before .loop .inv .1) in
+    events-end _ _ (opened (args .text .now) (args .store .now) (args .arena .now) (args .tables .now) (args .screens .now) none) _ _ _ _ _ _ _ all (c .before .before .before .before .before .before .before .before .before .before .before .before .before .begun .ensures) (c .before .before .before .before .before .loop .inv .0) (c .before .before .read-next .ensures)
+
+pub virpulens-bench-key-spec : {M : Type 1} → statement M
+virpulens-bench-key-spec =
+    tie.close
+    (tie.spec
+    Inv-loop
+    μ-loop
+    begun-requires
+    loop-holds
+    key-requires
+    add-i
+    loop-less
+    loop-again
+    read-next-requires
+    same-length
+    same-length-2
+    same-length-3
+    same-length-4
+    returns)
