@@ -1,0 +1,26 @@
+-- docs/REPLAY.md: the letters of `partitions`.
+use mathlib.Core.Bool.{Bool, true, false, cond, _&&_, _||_}
+use mathlib.Core.List.{List, [], _∷_, _++_}
+use Prim.Native.Nat.{ℕ, min}
+use lib.Dec.{eqb, ltb}
+use lib.ListN.{length, take, replicate}
+use Rattle.octets.specs.Lists.{over}
+use Rattle.replay_text.specs.declared.letters.Letters.{Letters}
+
+-- "A active, P passive"
+unfoldable pub allLetters : List ℕ → Bool
+allLetters [] = true
+allLetters (b ∷ l) = (eqb b 65 || eqb b 80) && allLetters l
+
+-- which are A
+unfoldable pub flags : List ℕ → List Bool
+flags [] = []
+flags (b ∷ l) = eqb b 65 ∷ flags l
+
+-- "one letter or more"; "letters behind the ninth are read and dropped, so that a count of 9 can be tried"
+unfoldable pub lettersOf : List ℕ → Letters
+lettersOf w = record {
+  good = ltb 0 (length w) && allLetters w;
+  count = min (length w) 9;
+  active = over (flags w) (replicate 8 false);
+}
