@@ -1,182 +1,26 @@
-// A line, by its first word. Each group of words has a function; it hands the session back as it was where the word is none of its own.
-use super::accounts;
-use super::before;
-use super::devices;
-use super::look;
-use super::memory;
+// A line, by its first word. Each function knows a group of words and hands any other on to the next group.
+use super::account_lines;
+use super::device_lines;
+use super::look_lines;
+use super::memory_lines;
 use super::say;
 use super::session::Session;
-use super::starts;
-use super::stops;
+use super::setting_lines;
+use super::start_line;
+use super::stop_lines;
 use octets::parts;
 use octets::search;
+use replay_text::arguments;
+use replay_text::letters;
 use replay_text::words;
 
-// The areas' lengths and the other settings.
-fn settings(
-    session: Session,
-    verb: &[u8],
-    line: &[u8],
-    arena: &mut [u8],
-    tables: &mut [u8],
-    screens: &mut [u8],
-    given: &mut [u8],
-    out: &mut [u8],
-) -> Session {
-    let known = session.with_known(true);
-    if search::same(verb, b"partitions") {
-        return before::partitions(known, line, out);
-    }
-    if search::same(verb, b"soft") {
-        return before::soft(known, line, given, out);
-    }
-    if search::same(verb, b"arena") {
-        return before::area(known, 0, line, 6, arena, given, out);
-    }
-    if search::same(verb, b"tables") {
-        return before::area(known, 1, line, 7, tables, given, out);
-    }
-    if search::same(verb, b"screens") {
-        return before::area(known, 2, line, 8, screens, given, out);
-    }
-    session
-}
-
-// The text and the store.
-fn inputs(
-    session: Session,
-    verb: &[u8],
-    line: &[u8],
-    text: &mut [u8],
-    store: &mut [u8],
-    out: &mut [u8],
-) -> Session {
-    let known = session.with_known(true);
-    if search::same(verb, b"text") {
-        return before::text(known, line, text, out);
-    }
-    if search::same(verb, b"image") {
-        return before::image(known, line, store, out);
-    }
-    if search::same(verb, b"clear") {
-        return before::clear(known, line, out);
-    }
-    session
-}
-
-fn device_calls(
-    session: Session,
-    verb: &[u8],
-    line: &[u8],
-    screens: &mut [u8],
-    lent: &mut [u8],
-    given: &mut [u8],
-    out: &mut [u8],
-) -> Session {
-    let known = session.with_known(true);
-    if search::same(verb, b"read_next") {
-        return devices::read_next(known, line, lent, given, out);
-    }
-    if search::same(verb, b"read_random") {
-        return devices::read_random(known, line, screens, lent, given, out);
-    }
-    if search::same(verb, b"write_next") {
-        return devices::write_next(known, line, screens, given, out);
-    }
-    if search::same(verb, b"write_random") {
-        return devices::write_random(known, line, screens, given, out);
-    }
-    session
-}
-
-fn memory_calls(
-    session: Session,
-    verb: &[u8],
-    line: &[u8],
-    permissions: [[u8; 8]; 32],
-    store: &mut [u8],
-    arena: &mut [u8],
-    lent: &mut [u8],
-    given: &mut [u8],
-    out: &mut [u8],
-) -> Session {
-    let known = session.with_known(true);
-    if search::same(verb, b"load") {
-        return memory::load(known, line, permissions, arena, lent, given, out);
-    }
-    if search::same(verb, b"store") {
-        return memory::store(known, line, permissions, arena, given, out);
-    }
-    if search::same(verb, b"flush") {
-        return memory::flush(known, line, permissions, arena, store, given, out);
-    }
-    if search::same(verb, b"configuration") {
-        return memory::configuration(known, line, permissions, store, lent, given, out);
-    }
-    session
-}
-
-fn account_calls(
-    session: Session,
-    verb: &[u8],
-    line: &[u8],
-    store: &mut [u8],
-    tables: &mut [u8],
-    lent: &mut [u8],
-    given: &mut [u8],
-    out: &mut [u8],
-) -> Session {
-    let known = session.with_known(true);
-    if search::same(verb, b"login") {
-        return accounts::login(known, line, tables, given, out);
-    }
-    if search::same(verb, b"who") {
-        return accounts::who(known, line, tables, lent, given, out);
-    }
-    if search::same(verb, b"logout") {
-        return accounts::logout(known, line, given, out);
-    }
-    if search::same(verb, b"set_password") {
-        return accounts::set_password(known, line, store, tables, given, out);
-    }
-    session
-}
-
-// The stops and the events.
-fn stops_and_events(
-    session: Session,
-    verb: &[u8],
-    line: &[u8],
-    screens: &mut [u8],
-    given: &mut [u8],
-    out: &mut [u8],
-) -> Session {
-    let known = session.with_known(true);
-    if search::same(verb, b"shutdown") {
-        return stops::shutdown(known, line, screens, given, out);
-    }
-    if search::same(verb, b"powerdown") {
-        return stops::powerdown(known, line, screens, given, out);
-    }
-    if search::same(verb, b"key") {
-        return stops::key(known, line, given, out);
-    }
-    if search::same(verb, b"attention") {
-        return stops::attention(known, line, out);
-    }
-    if search::same(verb, b"fault") {
-        return stops::fault(known, line, given, out);
-    }
-    session
-}
-
-// `start`, `show` and `screen`
+// `start`, `show` and `screen`; any other word is bad.
 fn starts_and_looks(
     session: Session,
-    verb: &[u8],
     line: &[u8],
+    verb: &[u8],
     text: &[u8],
-    store: &[u8],
+    store: &mut [u8],
     arena: &mut [u8],
     tables: &mut [u8],
     screens: &mut [u8],
@@ -184,11 +28,11 @@ fn starts_and_looks(
     given: &mut [u8],
     out: &mut [u8],
 ) -> Session {
-    let known = session.with_known(true);
     if search::same(verb, b"start") {
-        return starts::start(
-            known,
-            line,
+        let read = arguments::read(b"", line, 6, given);
+        return start_line::start(
+            session,
+            read,
             text,
             store,
             arena,
@@ -200,12 +44,399 @@ fn starts_and_looks(
     }
     if search::same(verb, b"show") {
         let table = *permissions;
-        return look::show(known, line, store, arena, tables, screens, table, out);
+        let read = arguments::read(b"", line, 5, given);
+        return look_lines::show(session, read, store, arena, tables, screens, table, out);
     }
     if search::same(verb, b"screen") {
-        return look::screen(known, line, screens, given, out);
+        let read = arguments::read(b"n", line, 7, given);
+        return look_lines::screen(session, read, screens, out);
     }
-    session
+    say::bad(session, out)
+}
+
+fn events(
+    session: Session,
+    line: &[u8],
+    verb: &[u8],
+    text: &[u8],
+    store: &mut [u8],
+    arena: &mut [u8],
+    tables: &mut [u8],
+    screens: &mut [u8],
+    permissions: &mut [[u8; 8]; 32],
+    given: &mut [u8],
+    out: &mut [u8],
+) -> Session {
+    if search::same(verb, b"key") {
+        let read = arguments::read(b"y", line, 4, given);
+        return stop_lines::key(session, read, out);
+    }
+    if search::same(verb, b"attention") {
+        let read = arguments::read(b"", line, 10, given);
+        return stop_lines::attention(session, read, out);
+    }
+    if search::same(verb, b"fault") {
+        let read = arguments::read(b"nns", line, 6, given);
+        return stop_lines::fault(session, read, out);
+    }
+    starts_and_looks(
+        session,
+        line,
+        verb,
+        text,
+        store,
+        arena,
+        tables,
+        screens,
+        permissions,
+        given,
+        out,
+    )
+}
+
+fn stop_calls(
+    session: Session,
+    line: &[u8],
+    verb: &[u8],
+    text: &[u8],
+    store: &mut [u8],
+    arena: &mut [u8],
+    tables: &mut [u8],
+    screens: &mut [u8],
+    permissions: &mut [[u8; 8]; 32],
+    given: &mut [u8],
+    out: &mut [u8],
+) -> Session {
+    if search::same(verb, b"shutdown") {
+        let read = arguments::read(b"nb", line, 9, given);
+        return stop_lines::shutdown(session, read, given, screens, out);
+    }
+    if search::same(verb, b"powerdown") {
+        let read = arguments::read(b"n", line, 10, given);
+        return stop_lines::powerdown(session, read, screens, out);
+    }
+    events(
+        session,
+        line,
+        verb,
+        text,
+        store,
+        arena,
+        tables,
+        screens,
+        permissions,
+        given,
+        out,
+    )
+}
+
+fn memory_calls(
+    session: Session,
+    line: &[u8],
+    verb: &[u8],
+    text: &[u8],
+    store: &mut [u8],
+    arena: &mut [u8],
+    tables: &mut [u8],
+    screens: &mut [u8],
+    permissions: &mut [[u8; 8]; 32],
+    lent: &mut [u8],
+    given: &mut [u8],
+    out: &mut [u8],
+) -> Session {
+    if search::same(verb, b"load") {
+        let table = *permissions;
+        let read = arguments::read(b"nnnl", line, 5, given);
+        let n = read.numbers;
+        let size = parts::least(n[3] as usize, lent.len());
+        return memory_lines::load(session, read, table, arena, &mut lent[0..size], out);
+    }
+    if search::same(verb, b"store") {
+        let table = *permissions;
+        let read = arguments::read(b"nnnb", line, 6, given);
+        return memory_lines::store(session, read, given, table, arena, out);
+    }
+    if search::same(verb, b"flush") {
+        let table = *permissions;
+        let read = arguments::read(b"nnn", line, 6, given);
+        return memory_lines::flush(session, read, table, arena, store, out);
+    }
+    if search::same(verb, b"configuration") {
+        let table = *permissions;
+        let read = arguments::read(b"nl", line, 14, given);
+        let n = read.numbers;
+        let size = parts::least(n[1] as usize, lent.len());
+        return memory_lines::configuration(session, read, table, store, &mut lent[0..size], out);
+    }
+    stop_calls(
+        session,
+        line,
+        verb,
+        text,
+        store,
+        arena,
+        tables,
+        screens,
+        permissions,
+        given,
+        out,
+    )
+}
+
+fn account_calls(
+    session: Session,
+    line: &[u8],
+    verb: &[u8],
+    text: &[u8],
+    store: &mut [u8],
+    arena: &mut [u8],
+    tables: &mut [u8],
+    screens: &mut [u8],
+    permissions: &mut [[u8; 8]; 32],
+    lent: &mut [u8],
+    given: &mut [u8],
+    out: &mut [u8],
+) -> Session {
+    if search::same(verb, b"login") {
+        let read = arguments::read(b"nbb", line, 6, given);
+        return account_lines::login(session, read, given, tables, out);
+    }
+    if search::same(verb, b"who") {
+        let read = arguments::read(b"nl", line, 4, given);
+        let n = read.numbers;
+        let size = parts::least(n[1] as usize, lent.len());
+        return account_lines::who(session, read, tables, &mut lent[0..size], out);
+    }
+    if search::same(verb, b"logout") {
+        let read = arguments::read(b"n", line, 7, given);
+        return account_lines::logout(session, read, out);
+    }
+    if search::same(verb, b"set_password") {
+        let read = arguments::read(b"nbn", line, 13, given);
+        return account_lines::set_password(session, read, given, store, tables, out);
+    }
+    memory_calls(
+        session,
+        line,
+        verb,
+        text,
+        store,
+        arena,
+        tables,
+        screens,
+        permissions,
+        lent,
+        given,
+        out,
+    )
+}
+
+fn device_calls(
+    session: Session,
+    line: &[u8],
+    verb: &[u8],
+    text: &[u8],
+    store: &mut [u8],
+    arena: &mut [u8],
+    tables: &mut [u8],
+    screens: &mut [u8],
+    permissions: &mut [[u8; 8]; 32],
+    lent: &mut [u8],
+    given: &mut [u8],
+    out: &mut [u8],
+) -> Session {
+    if search::same(verb, b"read_next") {
+        let read = arguments::read(b"nnnnl", line, 10, given);
+        let n = read.numbers;
+        let size = parts::least(n[4] as usize, lent.len());
+        return device_lines::read_next(session, read, &mut lent[0..size], out);
+    }
+    if search::same(verb, b"read_random") {
+        let read = arguments::read(b"nnnnnl", line, 12, given);
+        let n = read.numbers;
+        let size = parts::least(n[5] as usize, lent.len());
+        return device_lines::read_random(session, read, screens, &mut lent[0..size], out);
+    }
+    if search::same(verb, b"write_next") {
+        let read = arguments::read(b"nnnnb", line, 11, given);
+        return device_lines::write_next(session, read, given, screens, out);
+    }
+    if search::same(verb, b"write_random") {
+        let read = arguments::read(b"nnnnnb", line, 13, given);
+        return device_lines::write_random(session, read, given, screens, out);
+    }
+    account_calls(
+        session,
+        line,
+        verb,
+        text,
+        store,
+        arena,
+        tables,
+        screens,
+        permissions,
+        lent,
+        given,
+        out,
+    )
+}
+
+// The lines that speak to the terminal: each area is lent as long as it is said to be now.
+fn calls(
+    session: Session,
+    line: &[u8],
+    verb: &[u8],
+    text: &mut [u8],
+    store: &mut [u8],
+    arena: &mut [u8],
+    tables: &mut [u8],
+    screens: &mut [u8],
+    permissions: &mut [[u8; 8]; 32],
+    lent: &mut [u8],
+    given: &mut [u8],
+    out: &mut [u8],
+) -> Session {
+    let lengths = session.lengths;
+    let b = parts::least(lengths.store, store.len());
+    let a = parts::least(lengths.arena, arena.len());
+    let t = parts::least(lengths.tables, tables.len());
+    let s = parts::least(lengths.screens, screens.len());
+    device_calls(
+        session,
+        line,
+        verb,
+        parts::piece(text, 0, lengths.text),
+        &mut store[0..b],
+        &mut arena[0..a],
+        &mut tables[0..t],
+        &mut screens[0..s],
+        permissions,
+        lent,
+        given,
+        out,
+    )
+}
+
+fn input_lines(
+    session: Session,
+    line: &[u8],
+    verb: &[u8],
+    text: &mut [u8],
+    store: &mut [u8],
+    arena: &mut [u8],
+    tables: &mut [u8],
+    screens: &mut [u8],
+    permissions: &mut [[u8; 8]; 32],
+    lent: &mut [u8],
+    given: &mut [u8],
+    out: &mut [u8],
+) -> Session {
+    if search::same(verb, b"text") {
+        let word = parts::piece(line, 5, line.len());
+        return setting_lines::text(session, word, text, out);
+    }
+    if search::same(verb, b"image") {
+        let word = parts::piece(line, 6, line.len());
+        return setting_lines::image(session, word, store, out);
+    }
+    if search::same(verb, b"clear") {
+        let read = arguments::read(b"", line, 6, given);
+        return setting_lines::clear(session, read, out);
+    }
+    calls(
+        session,
+        line,
+        verb,
+        text,
+        store,
+        arena,
+        tables,
+        screens,
+        permissions,
+        lent,
+        given,
+        out,
+    )
+}
+
+fn area_lines(
+    session: Session,
+    line: &[u8],
+    verb: &[u8],
+    text: &mut [u8],
+    store: &mut [u8],
+    arena: &mut [u8],
+    tables: &mut [u8],
+    screens: &mut [u8],
+    permissions: &mut [[u8; 8]; 32],
+    lent: &mut [u8],
+    given: &mut [u8],
+    out: &mut [u8],
+) -> Session {
+    if search::same(verb, b"arena") {
+        let read = arguments::read(b"a", line, 6, given);
+        return setting_lines::arena(session, read, arena, out);
+    }
+    if search::same(verb, b"tables") {
+        let read = arguments::read(b"a", line, 7, given);
+        return setting_lines::tables(session, read, tables, out);
+    }
+    if search::same(verb, b"screens") {
+        let read = arguments::read(b"a", line, 8, given);
+        return setting_lines::screens(session, read, screens, out);
+    }
+    input_lines(
+        session,
+        line,
+        verb,
+        text,
+        store,
+        arena,
+        tables,
+        screens,
+        permissions,
+        lent,
+        given,
+        out,
+    )
+}
+
+fn settings(
+    session: Session,
+    line: &[u8],
+    verb: &[u8],
+    text: &mut [u8],
+    store: &mut [u8],
+    arena: &mut [u8],
+    tables: &mut [u8],
+    screens: &mut [u8],
+    permissions: &mut [[u8; 8]; 32],
+    lent: &mut [u8],
+    given: &mut [u8],
+    out: &mut [u8],
+) -> Session {
+    if search::same(verb, b"partitions") {
+        let word = parts::piece(line, 11, line.len());
+        return setting_lines::partitions(session, letters::read(word), out);
+    }
+    if search::same(verb, b"soft") {
+        let read = arguments::read(b"o", line, 5, given);
+        return setting_lines::soft(session, read, out);
+    }
+    area_lines(
+        session,
+        line,
+        verb,
+        text,
+        store,
+        arena,
+        tables,
+        screens,
+        permissions,
+        lent,
+        given,
+        out,
+    )
 }
 
 // Carries out one line.
@@ -223,54 +454,18 @@ pub fn line(
     out: &mut [u8],
 ) -> Session {
     let verb = parts::piece(line, 0, words::before(32, line, 0));
-    let table = *permissions;
-    let a = device_calls(
-        session.with_known(false),
-        verb,
+    settings(
+        session,
         line,
-        screens,
-        lent,
-        given,
-        out,
-    );
-    if a.known {
-        return a;
-    }
-    let b = account_calls(a, verb, line, store, tables, lent, given, out);
-    if b.known {
-        return b;
-    }
-    let c = memory_calls(b, verb, line, table, store, arena, lent, given, out);
-    if c.known {
-        return c;
-    }
-    let d = stops_and_events(c, verb, line, screens, given, out);
-    if d.known {
-        return d;
-    }
-    let e = starts_and_looks(
-        d,
         verb,
-        line,
         text,
         store,
         arena,
         tables,
         screens,
         permissions,
+        lent,
         given,
         out,
-    );
-    if e.known {
-        return e;
-    }
-    let f = settings(e, verb, line, arena, tables, screens, given, out);
-    if f.known {
-        return f;
-    }
-    let g = inputs(f, verb, line, text, store, out);
-    if g.known {
-        return g;
-    }
-    say::bad(g, out)
+    )
 }

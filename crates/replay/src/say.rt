@@ -2,31 +2,39 @@
 use super::session::Session;
 use lines::numbers::put;
 use lines::numbers::put_decimal;
-use octets::parts;
 use replay_text::hex::put_bytes;
+
+// A text and a number behind it.
+pub fn counted(out: &mut [u8], at: usize, text: &[u8], n: u64) -> usize {
+    let next = put(out, at, text);
+    put_decimal(out, next, n)
+}
+
+// The end of a line.
+fn ended(session: Session, out: &mut [u8], at: usize) -> Session {
+    session.with_said(put(out, at, b"\n"))
+}
+
+// A space, bytes in hex digits, and the end of the line.
+fn filled(session: Session, out: &mut [u8], at: usize, lent: &[u8]) -> Session {
+    let a = put(out, at, b" ");
+    let b = put_bytes(out, a, lent);
+    ended(session, out, b)
+}
 
 // `bad line N`
 pub fn bad(session: Session, out: &mut [u8]) -> Session {
-    let a = put(out, session.said, b"bad line ");
-    let b = put_decimal(out, a, session.line as u64);
-    let c = put(out, b, b"\n");
-    session.with_said(c)
+    let next = counted(out, session.said, b"bad line ", session.line as u64);
+    ended(session, out, next)
 }
 
-// A call's name, with the space behind it, and its number.
-fn named(session: Session, out: &mut [u8], name: &[u8], number: u32) -> usize {
-    let a = put(out, session.said, name);
-    put_decimal(out, a, number as u64)
-}
-
-// `logout NUMBER`
+// `logout NUMBER`; the name has its space with it.
 pub fn number(session: Session, out: &mut [u8], name: &[u8], number: u32) -> Session {
-    let a = named(session, out, name, number);
-    let b = put(out, a, b"\n");
-    session.with_said(b)
+    let next = counted(out, session.said, name, number as u64);
+    ended(session, out, next)
 }
 
-// `login NUMBER COUNT`, and with other words between `start NUMBER line LINE`
+// `login NUMBER COUNT`, and `start NUMBER line LINE`
 pub fn two(
     session: Session,
     out: &mut [u8],
@@ -35,20 +43,15 @@ pub fn two(
     between: &[u8],
     count: usize,
 ) -> Session {
-    let a = named(session, out, name, number);
-    let b = put(out, a, between);
-    let c = put_decimal(out, b, count as u64);
-    let d = put(out, c, b"\n");
-    session.with_said(d)
+    let a = counted(out, session.said, name, number as u64);
+    let b = counted(out, a, between, count as u64);
+    ended(session, out, b)
 }
 
 // `load NUMBER BYTES`
 pub fn buffer(session: Session, out: &mut [u8], name: &[u8], number: u32, lent: &[u8]) -> Session {
-    let a = named(session, out, name, number);
-    let b = put(out, a, b" ");
-    let c = put_bytes(out, b, lent);
-    let d = put(out, c, b"\n");
-    session.with_said(d)
+    let next = counted(out, session.said, name, number as u64);
+    filled(session, out, next, lent)
 }
 
 // `read_next NUMBER COUNT BYTES`
@@ -60,11 +63,7 @@ pub fn moved(
     count: usize,
     lent: &[u8],
 ) -> Session {
-    let a = named(session, out, name, number);
-    let b = put(out, a, b" ");
-    let c = put_decimal(out, b, count as u64);
-    let d = put(out, c, b" ");
-    let e = put_bytes(out, d, lent);
-    let f = put(out, e, b"\n");
-    session.with_said(f)
+    let a = counted(out, session.said, name, number as u64);
+    let b = counted(out, a, b" ", count as u64);
+    filled(session, out, b, lent)
 }

@@ -1,4 +1,5 @@
 // What a run holds besides its areas.
+use octets::parts;
 use replay_text::letters::Letters;
 use terminal::Terminal;
 
@@ -11,8 +12,8 @@ pub struct Lengths {
     pub screens: usize,
 }
 
-// The running terminal and what the next start is given; `line` counts the lines, `held` the bytes of the line that is being read, `said` the
-// bytes of output that wait; `known` says that the line's first word is one of the format's.
+// The running terminal and what the next start is given; `line` counts the lines, `held` the bytes of the line that is being read and `whole` whether it is complete, `said` the
+// bytes of output that wait; what is left of the input that was read stands from `at` to `end`.
 pub struct Session {
     pub terminal: Terminal,
     pub accepted: bool,
@@ -22,8 +23,10 @@ pub struct Session {
     pub lengths: Lengths,
     pub line: usize,
     pub held: usize,
+    pub whole: bool,
     pub said: usize,
-    pub known: bool,
+    pub at: usize,
+    pub end: usize,
 }
 
 impl Session {
@@ -46,8 +49,10 @@ impl Session {
             lengths,
             line: 0,
             held: 0,
+            whole: false,
             said: 0,
-            known: false,
+            at: 0,
+            end: 0,
         }
     }
 
@@ -67,13 +72,37 @@ impl Session {
     }
 
     pub fn with_partitions(mut self, letters: Letters) -> Self {
+        let active = letters.active;
         self.count = letters.count;
-        self.active = letters.active;
+        self.active = active;
         self
     }
 
-    pub fn with_known(mut self, known: bool) -> Self {
-        self.known = known;
+    pub fn with_soft(mut self, soft: bool) -> Self {
+        self.soft = soft;
+        self
+    }
+
+    pub fn with_accepted(mut self, accepted: bool) -> Self {
+        self.accepted = accepted;
+        self
+    }
+
+    // One line more has been read; nothing is held of the next.
+    pub fn with_line(mut self) -> Self {
+        self.line = parts::sum(self.line, 1, usize::MAX);
+        self.held = 0;
+        self
+    }
+
+    pub fn with_input(mut self, at: usize, end: usize) -> Self {
+        self.at = at;
+        self.end = end;
+        self
+    }
+
+    pub fn with_whole(mut self, whole: bool) -> Self {
+        self.whole = whole;
         self
     }
 
