@@ -1,7 +1,6 @@
 -- docs/REPLAY.md at some points: words, numbers, and the size of BYTES.
-use mathlib.Core.List.{List, [], _∷_}
+use mathlib.Core.List.{[], _∷_}
 use mathlib.Core.Path.{_≡_, refl}
-use Prim.Native.Nat.{ℕ}
 use Rattle.octets.specs.Lists.{part}
 use Rattle.octets.specs.Same.{sameBytes}
 use Rattle.text.specs.Gaps.{gapFrom, tokenPlace}

@@ -1,15 +1,14 @@
 -- Laws of hex digits: digit by digit and byte by byte.
-use mathlib.Core.Bool.{Bool, true, false, cond, _&&_, _||_, false≢true}
+use mathlib.Core.Bool.{Bool, true, false, _&&_, _||_, false≢true}
 use mathlib.Core.List.{List, [], _∷_}
 use mathlib.Core.Path.{_≡_, refl}
 use Prim.Native.Nat.{ℕ, zero, suc, _+_, _-_, _*_, _/_, _%_, _≤_, _<_}
-use native.Mathlib.Nat.{not-suc-le-zero}
 use native.Mathlib.Omega.{arith}
-use borrow.Author.Tests.{lt-ltb, le-ltb, ltb-true, ltb-false, leb-true, leb-false}
-use lib.Dec.{eqb, leb, ltb}
+use borrow.Author.Tests.{lt-ltb, le-ltb, leb-true}
+use lib.Dec.{eqb, leb}
 use lib.ListN.{length, getD}
 use Rattle.text.specs.Steps.{split}
-use Rattle.replay_text.specs.Hex.{isHex, worth, bytesOf, hexDigit, halfDigit, hexOf, spelled}
+use Rattle.replay_text.specs.Hex.{isHex, worth, bytesOf, halfDigit, hexOf, spelled}
 
 -- ---- one digit
 

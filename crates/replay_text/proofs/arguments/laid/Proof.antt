@@ -49,7 +49,9 @@ same-length c = search needs
 
 returns-3 : tie.Need-returns-3
 unfolding laid
-returns-3 c = rw (c .with-held .ensures, c .before .sum .ensures, c .before .before .with-number .ensures, c .before .before .before .before .before .decode .ensures, sym (c .before .before .before .before .before .before .before .before .before .before .before .size-of .ensures) ∙ c .before .before .before .before .before .before .before .before .before .size .given .1, le-ltb _ _ (c .before .before .before .before .before .before .before .if1 .left))
+returns-3 c =
+    let size = sym (c .before .before .before .before .before .before .before .before .before .before .before .size-of .ensures) ∙ c .before .before .before .before .before .before .before .before .before .size .given .1 in
+    rw (c .with-held .ensures, c .before .sum .ensures, c .before .before .with-number .ensures, c .before .before .before .before .before .decode .ensures, size, le-ltb _ _ (c .before .before .before .before .before .before .before .if1 .left))
 
 pub laid-spec : {M : Type 1} → statement M
 laid-spec =

@@ -1,10 +1,10 @@
 -- `replay_text::arguments::read` meets its contract. The loop's invariant: what the whole line gives is what the rest of it gives, by the rest of the
 -- pattern, to what was read. Assumes nothing.
 use mathlib.Core.Path.{_≡_, refl, sym, ap, _∙_}
-use Prim.Native.Nat.{_+_, _-_}
+use Prim.Native.Nat.{_+_, _-_, _<_}
 use native.Mathlib.Omega.{arith}
 use lib.ListN.{length, drop, length-drop}
-use Rattle.replay_text.specs.Arguments.{told, argumentsOf, readWords, wordsFrom}
+use Rattle.replay_text.specs.Arguments.{most, told, argumentsOf, readWords, wordsFrom}
 use Rattle.replay_text.specs.WordLaws.{index-le}
 use Rattle.replay_text.specs.ArgumentLaws.{read-step, read-end, read-left}
 use borrow.Author.Needs.{needs}
@@ -38,7 +38,10 @@ argument-requires : tie.Need-argument-requires Inv-loop μ-loop
 argument-requires c κs = search needs
 
 add-sum : tie.Need-add-sum Inv-loop μ-loop
-add-sum c = rw (c .before .before .before .before .before .before .before2 .ensures) (omega (arith, index-le 32 (drop (c .before .before .before .before .before .before .before .before .loop .place) (c .before .before .before .before .before .before .before .before .before .before .before .before .before .args .line .now)), length-drop (c .before .before .before .before .before .before .before .before .loop .place) (c .before .before .before .before .before .before .before .before .before .before .before .before .before .args .line .now)))
+add-sum c =
+    let line = c .before .before .before .before .before .before .before .before .before .before .before .before .before .args .line .now in
+    let place = c .before .before .before .before .before .before .before .before .loop .place in
+    rw (c .before .before .before .before .before .before .before2 .ensures) (omega (arith, index-le 32 (drop place line), length-drop place line))
 
 sum-requires : tie.Need-sum-requires Inv-loop μ-loop
 sum-requires c κs = search needs
@@ -51,10 +54,14 @@ loop-less c = search needs
 
 loop-again : tie.Need-loop-again Inv-loop μ-loop
 loop-again c =
+    let room : length (c .before .before .before .before .before .before .before .before .before .before .before .before .before .before .args .line .now) < most = omega arith in
     let args = c .before .before .before .before .before .before .before .before .before .before .before .before .before .before .args in
-    let loop = c .before .before .before .before .before .before .before .before .before .loop in (
+    let loop = c .before .before .before .before .before .before .before .before .before .loop in
+    let word = c .before .before .before .before .before .before .before .before2 in
+    let piece = c .before .before .before .before .before .piece in (
       loop .inv .0
-          ∙ (read-step (args .pattern .now) (loop .i) (args .line .now) (loop .place) (c .before .before .before .before .before .before .before .before2 .result) (c .before .before .before .before .before .piece .result .now) (c .sum .result) _ (c .before .before .before .before .before .before .before .before .loop-test .taken) (c .before .before .before .before .before .before .before .before2 .ensures) (c .before .before .before .before .before .piece .ensures) (c .sum .ensures) (omega arith)
+          ∙ (read-step (args .pattern .now) (loop .i) (args .line .now) (loop .place) (word .result) (piece .result .now) (c .sum .result) _
+          (c .before .before .before .before .before .before .before .before .loop-test .taken) (word .ensures) (piece .ensures) (c .sum .ensures) room
           ∙ ap (readWords (drop (loop .i + 1) (args .pattern .now)) (wordsFrom (args .line .now) (c .sum .result))) (sym (c .before .before .before .argument .ensures))),
       omega arith,
     )
@@ -63,7 +70,10 @@ same-length : tie.Need-same-length Inv-loop μ-loop
 same-length c = c .before .before .loop .inv .1
 
 returns : tie.Need-returns Inv-loop μ-loop
-returns c = sym (c .before .before .loop .inv .0 ∙ read-end (c .before .before .before .before .before .before .before .args .pattern .now) (c .before .before .loop .i) (c .before .before .before .before .before .before .before .args .line .now) (c .before .before .loop .place) _ (c .before .loop-test .left) (c .if1 .taken))
+returns c =
+    let args = c .before .before .before .before .before .before .before .args in
+    let loop = c .before .before .loop in
+    sym (loop .inv .0 ∙ read-end (args .pattern .now) (loop .i) (args .line .now) (loop .place) _ (c .before .loop-test .left) (c .if1 .taken))
 
 refused-requires : tie.Need-refused-requires Inv-loop μ-loop
 refused-requires c κs = search needs
@@ -72,7 +82,12 @@ same-length-2 : tie.Need-same-length-2 Inv-loop μ-loop
 same-length-2 c = c .before .before .before .loop .inv .1
 
 returns-2 : tie.Need-returns-2 Inv-loop μ-loop
-returns-2 c = rw (c .refused .ensures) (sym (c .before .before .before .loop .inv .0 ∙ read-left (c .before .before .before .before .before .before .before .before .args .pattern .now) (c .before .before .before .loop .i) (c .before .before .before .before .before .before .before .before .args .line .now) (c .before .before .before .loop .place) (c .before .before .before .loop .sofar) (c .before .before .before .loop .given) (c .before .before .loop-test .left) (c .before .if1 .left)))
+returns-2 c =
+    let args = c .before .before .before .before .before .before .before .before .args in
+    let loop = c .before .before .before .loop in
+    rw (c .refused .ensures)
+    (sym (loop .inv .0
+    ∙ read-left (args .pattern .now) (loop .i) (args .line .now) (loop .place) (loop .sofar) (loop .given) (c .before .before .loop-test .left) (c .before .if1 .left)))
 
 pub read-spec : {M : Type 1} → statement M
 read-spec =

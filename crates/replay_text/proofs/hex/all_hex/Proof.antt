@@ -26,7 +26,9 @@ is-hex-requires c κs = search needs
 
 returns : tie.Need-returns Inv-loop μ-loop
 unfolding allHex
-returns c = sym (c .before .before .before .before .loop .inv ∙ all-stop isHex allHex refl (λ b l. refl) (c .before .before .before .before .before .before .args .word .now) (c .before .before .before .before .loop .i) (c .before .before .before .loop-test .taken) (sym (c .before .is-hex .ensures) ∙ not-true _ (c .if1 .taken)))
+returns c =
+    let loop = c .before .before .before .before .loop in
+    sym (loop .inv ∙ all-stop isHex allHex refl (λ b l. refl) (c .before .before .before .before .before .before .args .word .now) (loop .i) (c .before .before .before .loop-test .taken) (sym (c .before .is-hex .ensures) ∙ not-true _ (c .if1 .taken)))
 
 add-i : tie.Need-add-i Inv-loop μ-loop
 add-i c = search needs
@@ -36,7 +38,9 @@ loop-less c = search needs
 
 loop-again : tie.Need-loop-again Inv-loop μ-loop
 unfolding allHex
-loop-again c = c .before .before .before .before .loop .inv ∙ all-step isHex allHex refl (λ b l. refl) (c .before .before .before .before .before .before .args .word .now) (c .before .before .before .before .loop .i) (c .before .before .before .loop-test .taken) (sym (c .before .is-hex .ensures) ∙ not-false _ (c .if1 .left))
+loop-again c =
+    let loop = c .before .before .before .before .loop in
+    loop .inv ∙ all-step isHex allHex refl (λ b l. refl) (c .before .before .before .before .before .before .args .word .now) (loop .i) (c .before .before .before .loop-test .taken) (sym (c .before .is-hex .ensures) ∙ not-false _ (c .if1 .left))
 
 returns-2 : tie.Need-returns-2 Inv-loop μ-loop
 unfolding allHex

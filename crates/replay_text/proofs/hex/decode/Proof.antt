@@ -55,7 +55,10 @@ worth-requires-2 : tie.Need-worth-requires-2 Inv-loop μ-loop
 worth-requires-2 c κs = search needs
 
 add-to : tie.Need-add-to Inv-loop μ-loop
-add-to c = rw (c .before .before .worth .ensures, c .worth2 .ensures) (omega (arith, worth-small (getD (c .before .before .before .before .before .before .before .before .before .before .args .word .now) (2 * c .before .before .before .before .before .loop .i) 0), worth-small (getD (c .before .before .before .before .before .before .before .before .before .before .args .word .now) (2 * c .before .before .before .before .before .loop .i + 1) 0)))
+add-to c =
+    let word = c .before .before .before .before .before .before .before .before .before .before .args .word .now in
+    let i = c .before .before .before .before .before .loop .i in
+    rw (c .before .before .worth .ensures, c .worth2 .ensures) (omega (arith, worth-small (getD word (2 * i) 0), worth-small (getD word (2 * i + 1) 0)))
 
 add-to-2 : tie.Need-add-to-2 Inv-loop μ-loop
 add-to-2 c = search needs
@@ -71,12 +74,14 @@ loop-less c = search needs
 
 loop-again : tie.Need-loop-again Inv-loop μ-loop
 loop-again c =
-    let word = c .before .before .before .before .before .before .before .before .before .before .args .word .now in
-    let inside : c .before .before .before .before .before .loop .i < length word / 2 = omega arith in
-    let many : c .before .before .before .before .before .loop .i < length (bytesOf word) = rw length-bytes inside in (
-      one-more (c .before .before .before .before .before .before .before .least .result) (c .before .before .before .before .before .loop .i) _ 0 (bytesOf word) (c .before .before .before .before .before .before .before .before .before .before .args .to .now) (c .before .before .before .before .before .loop .to) many
-          (rw (byte-at word (c .before .before .before .before .before .loop .i) inside, c .before .before .worth .ensures, c .worth2 .ensures)) (c .before .before .before .before .before .loop .inv .0),
-      simp length-set (c .before .before .before .before .before .loop .inv .1),
+    let args = c .before .before .before .before .before .before .before .before .before .before .args in
+    let loop = c .before .before .before .before .before .loop in
+    let bytes = bytesOf (args .word .now) in
+    let inside : loop .i < length (args .word .now) / 2 = omega arith in
+    let more : loop .i < length bytes = rw length-bytes inside in
+    let byte = byte-at (args .word .now) (loop .i) inside in (
+      one-more (c .before .before .before .before .before .before .before .least .result) (loop .i) _ 0 bytes (args .to .now) (loop .to) more (rw (byte, c .before .before .worth .ensures, c .worth2 .ensures)) (loop .inv .0),
+      simp length-set (loop .inv .1),
       omega arith,
     )
 
@@ -85,9 +90,11 @@ same-length c = c .before .loop .inv .1
 
 returns : tie.Need-returns Inv-loop μ-loop
 returns c =
+    let args = c .before .before .before .before .before .before .args in
     let end : c .before .loop .i ≡ c .before .before .least2 .result = omega arith in
     rw end at (c .before .loop .inv .0)
-    ∙ all-written (c .before .before .before .before .before .before .args .at) (c .before .before .before .least .result) (c .before .before .least2 .result) (bytesOf (c .before .before .before .before .before .before .args .word .now)) (c .before .before .before .before .before .before .args .to .now) (c .before .before .before .least .ensures) (rw length-bytes (c .before .before .least2 .ensures))
+    ∙ all-written (args .at) (c .before .before .before .least .result) (c .before .before .least2 .result) (bytesOf (args .word .now)) (args .to .now) (c .before .before .before .least .ensures)
+    (rw length-bytes (c .before .before .least2 .ensures))
 
 pub decode-spec : {M : Type 1} → statement M
 decode-spec =

@@ -1,8 +1,8 @@
 -- `replay_text::hex::put_bytes` meets its contract. The loop's invariant: the first i digits are written. Assumes nothing.
-use mathlib.Core.Path.{_≡_, refl, sym, _∙_}
-use Prim.Native.Nat.{_*_, _/_, _+_, _-_, _≤_, _<_}
+use mathlib.Core.Path.{_≡_, refl, sym}
+use Prim.Native.Nat.{_*_, _-_, _≤_, _<_}
 use native.Mathlib.Omega.{arith}
-use lib.ListN.{length, take, getD, length-set}
+use lib.ListN.{length, take, length-set}
 use Rattle.octets.specs.Lists.{writeAt}
 use Rattle.octets.specs.WriteLaws.{writeAt-nil}
 use Rattle.lines.specs.Laws.{called}
@@ -67,12 +67,14 @@ loop-less c = search needs
 
 loop-again : tie.Need-loop-again Inv-loop μ-loop
 loop-again c =
-    let from = c .before .before .before .before .before .before .before .before .before .args .from .now in
-    let inside : c .before .before .before .loop .i < 2 * length from = omega arith in
-    let many : c .before .before .before .loop .i < length (hexOf from) = rw length-hex inside in (
-      one-more (c .before .before .before .before .before .least .result) (c .before .before .before .loop .i) _ 0 (hexOf from) (c .before .before .before .before .before .before .before .before .before .args .out .now) (c .before .before .before .loop .out) many
-          (rw (digit-at from (c .before .before .before .loop .i) inside, c .half .ensures)) (c .before .before .before .loop .inv .0),
-      simp length-set (c .before .before .before .loop .inv .1),
+    let args = c .before .before .before .before .before .before .before .before .before .args in
+    let loop = c .before .before .before .loop in
+    let digits = hexOf (args .from .now) in
+    let inside : loop .i < 2 * length (args .from .now) = omega arith in
+    let more : loop .i < length digits = rw length-hex inside in
+    let digit = digit-at (args .from .now) (loop .i) inside in (
+      one-more (c .before .before .before .before .before .least .result) (loop .i) _ 0 digits (args .out .now) (loop .out) more (rw (digit, c .half .ensures)) (loop .inv .0),
+      simp length-set (loop .inv .1),
       omega arith,
     )
 
@@ -85,10 +87,11 @@ same-length-2 c = c .before .before .loop .inv .1
 returns-2 : tie.Need-returns-2 Inv-loop μ-loop
 unfolding most
 returns-2 c =
+    let args = c .before .before .before .before .before .before .before .before .args in
     let end : c .before .before .loop .i ≡ c .before .before .before .least2 .result = omega arith in
-    called (spelled-some (c .before .before .before .before .before .before .before .before .args .from .now) (c .before .before .before .before .before .if1 .left))
-    (wrote-all (c .before .before .before .before .before .before .before .before .args .at) (c .before .before .before .before .least .result) (c .before .before .before .least2 .result) (hexOf (c .before .before .before .before .before .before .before .before .args .from .now)) (c .before .before .before .before .before .before .before .before .args .out .now) _ _ (c .before .before .before .before .least .ensures) (rw length-hex (c .before .before .before .least2 .ensures)) (rw end at (c .before .before .loop .inv .0))
-    (rw length-hex (c .sum .ensures)) (omega arith))
+    called (spelled-some (args .from .now) (c .before .before .before .before .before .if1 .left))
+    (wrote-all (args .at) (c .before .before .before .before .least .result) (c .before .before .before .least2 .result) (hexOf (args .from .now)) (args .out .now) _ _ (c .before .before .before .before .least .ensures)
+    (rw length-hex (c .before .before .before .least2 .ensures)) (rw end at (c .before .before .loop .inv .0)) (rw length-hex (c .sum .ensures)) (omega arith))
 
 pub put-bytes-spec : {M : Type 1} → statement M
 put-bytes-spec =

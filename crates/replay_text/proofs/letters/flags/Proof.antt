@@ -1,7 +1,7 @@
 -- `replay_text::letters::flags` meets its contract. The loop's invariant: the first i flags are set. Assumes nothing.
 use mathlib.Core.Bool.{false}
-use mathlib.Core.Path.{_≡_, refl, sym, _∙_}
-use Prim.Native.Nat.{_*_, _/_, _+_, _-_, _≤_, _<_}
+use mathlib.Core.Path.{_≡_, sym, _∙_}
+use Prim.Native.Nat.{_-_, _≤_, _<_}
 use native.Mathlib.Nat.{zero-add}
 use native.Mathlib.Omega.{arith}
 use lib.ListN.{length, take, replicate}
@@ -41,16 +41,19 @@ loop-less c = search needs
 loop-again : tie.Need-loop-again Inv-loop μ-loop
 loop-again c =
     let word = c .before .before .before .before .before .args .word .now in
-    let inside : c .before .before .loop .i < length word = omega arith in
-    let many : c .before .before .loop .i < length (flags word) = rw length-flags inside in
-    (rw zero-add at (one-more 0 (c .before .before .loop .i) _ false (flags word) (replicate 8 false) (c .before .before .loop .active) many (flag-at word (c .before .before .loop .i) inside) (c .before .before .loop .inv .0)), omega arith)
+    let loop = c .before .before .loop in
+    let inside : loop .i < length word = omega arith in
+    let more : loop .i < length (flags word) = rw length-flags inside in
+    let flag = flag-at word (loop .i) inside in
+    (rw zero-add at (one-more 0 (loop .i) _ false (flags word) (replicate 8 false) (loop .active) more flag (loop .inv .0)), omega arith)
 
 returns : tie.Need-returns Inv-loop μ-loop
 returns c =
+    let all = flags (c .before .before .before .before .args .word .now) in
     let end : c .before .loop .i ≡ c .before .before .least .result = omega arith in
     rw end at (c .before .loop .inv .0)
-    ∙ (all-written 0 0 (c .before .before .least .result) (flags (c .before .before .before .before .args .word .now)) (replicate 8 false) (omega arith) (rw length-flags (c .before .before .least .ensures))
-    ∙ writeAt-zero (flags (c .before .before .before .before .args .word .now)) (replicate 8 false))
+    ∙ (all-written 0 0 (c .before .before .least .result) all (replicate 8 false) (omega arith) (rw length-flags (c .before .before .least .ensures))
+    ∙ writeAt-zero all (replicate 8 false))
 
 pub flags-spec : {M : Type 1} → statement M
 flags-spec =

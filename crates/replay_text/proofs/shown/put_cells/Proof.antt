@@ -1,8 +1,8 @@
 -- `replay_text::shown::put_cells` meets its contract. The loop's invariant: the first i cells are written. Assumes nothing.
-use mathlib.Core.Path.{_≡_, refl, sym, _∙_}
-use Prim.Native.Nat.{_*_, _/_, _+_, _-_, _≤_, _<_}
+use mathlib.Core.Path.{_≡_, refl, sym}
+use Prim.Native.Nat.{_-_, _≤_, _<_}
 use native.Mathlib.Omega.{arith}
-use lib.ListN.{length, take, getD, length-set}
+use lib.ListN.{length, take, length-set}
 use Rattle.octets.specs.Lists.{writeAt}
 use Rattle.octets.specs.WriteLaws.{writeAt-nil}
 use Rattle.lines.specs.Wrote.{most}
@@ -51,12 +51,14 @@ loop-less c = search needs
 
 loop-again : tie.Need-loop-again Inv-loop μ-loop
 loop-again c =
-    let cells = c .before .before .before .before .before .before .before .before .args .cells .now in
-    let inside : c .before .before .before .loop .i < length cells = omega arith in
-    let many : c .before .before .before .loop .i < length (shown cells) = rw length-shown inside in (
-      one-more (c .before .before .before .before .before .least .result) (c .before .before .before .loop .i) _ 0 (shown cells) (c .before .before .before .before .before .before .before .before .args .out .now) (c .before .before .before .loop .out) many
-          (rw (shown-at cells (c .before .before .before .loop .i) inside, c .shown-byte .ensures)) (c .before .before .before .loop .inv .0),
-      simp length-set (c .before .before .before .loop .inv .1),
+    let args = c .before .before .before .before .before .before .before .before .args in
+    let loop = c .before .before .before .loop in
+    let bytes = shown (args .cells .now) in
+    let inside : loop .i < length (args .cells .now) = omega arith in
+    let more : loop .i < length bytes = rw length-shown inside in
+    let byte = shown-at (args .cells .now) (loop .i) inside in (
+      one-more (c .before .before .before .before .before .least .result) (loop .i) _ 0 bytes (args .out .now) (loop .out) more (rw (byte, c .shown-byte .ensures)) (loop .inv .0),
+      simp length-set (loop .inv .1),
       omega arith,
     )
 
@@ -69,9 +71,10 @@ same-length c = c .before .before .loop .inv .1
 returns : tie.Need-returns Inv-loop μ-loop
 unfolding most
 returns c =
+    let args = c .before .before .before .before .before .before .before .args in
     let end : c .before .before .loop .i ≡ c .before .before .before .least2 .result = omega arith in
-    wrote-all (c .before .before .before .before .before .before .before .args .at) (c .before .before .before .before .least .result) (c .before .before .before .least2 .result) (shown (c .before .before .before .before .before .before .before .args .cells .now)) (c .before .before .before .before .before .before .before .args .out .now) _ _ (c .before .before .before .before .least .ensures) (rw length-shown (c .before .before .before .least2 .ensures)) (rw end at (c .before .before .loop .inv .0))
-    (rw length-shown (c .sum .ensures)) (omega arith)
+    wrote-all (args .at) (c .before .before .before .before .least .result) (c .before .before .before .least2 .result) (shown (args .cells .now)) (args .out .now) _ _ (c .before .before .before .before .least .ensures)
+    (rw length-shown (c .before .before .before .least2 .ensures)) (rw end at (c .before .before .loop .inv .0)) (rw length-shown (c .sum .ensures)) (omega arith)
 
 pub put-cells-spec : {M : Type 1} → statement M
 put-cells-spec =

@@ -21,10 +21,14 @@ token-place-requires : tie.Need-token-place-requires
 token-place-requires c κs = search needs
 
 returns-2 : tie.Need-returns-2
-returns-2 c = number-some (c .before .before .before .before .before .before .before .args .word .now) (c .before .token-place .result) _ _ _ (c .before .token-place .ensures) (sym (c .before .before .before .before .before .number-at .ensures) ∙ c .before .before .before .value .given .1) (c .if1 .taken)
+returns-2 c =
+    let place = c .before .token-place in
+    number-some (c .before .before .before .before .before .before .before .args .word .now) (place .result) _ _ _ (place .ensures) (sym (c .before .before .before .before .before .number-at .ensures) ∙ c .before .before .before .value .given .1) (c .if1 .taken)
 
 returns-3 : tie.Need-returns-3
-returns-3 c = number-some (c .before .before .before .before .before .before .before .args .word .now) (c .before .token-place .result) _ _ _ (c .before .token-place .ensures) (sym (c .before .before .before .before .before .number-at .ensures) ∙ c .before .before .before .value .given .1) (c .if1 .left)
+returns-3 c =
+    let place = c .before .token-place in
+    number-some (c .before .before .before .before .before .before .before .args .word .now) (place .result) _ _ _ (place .ensures) (sym (c .before .before .before .before .before .number-at .ensures) ∙ c .before .before .before .value .given .1) (c .if1 .left)
 
 pub number-of-spec : {M : Type 1} → statement M
 number-of-spec =
