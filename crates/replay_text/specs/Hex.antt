@@ -1,5 +1,5 @@
 -- docs/REPLAY.md: bytes as hex digits.
-use mathlib.Core.Bool.{Bool, true, false, cond, _&&_, _||_}
+use mathlib.Core.Bool.{Bool, true, cond, _&&_, _||_}
 use mathlib.Core.List.{List, [], _∷_}
 use Prim.Native.Nat.{ℕ, _+_, _-_, _*_, _/_, _%_}
 use lib.Dec.{eqb, leb, ltb}
@@ -36,13 +36,9 @@ bytesOf (a ∷ b ∷ l) = (worth a * 16 + worth b) ∷ bytesOf l
 unfoldable pub hexDigit : ℕ → ℕ
 hexDigit n = cond (ltb n 10) (48 + n) (87 + n % 16)
 
--- a byte's digits, the higher and the lower
-unfoldable pub halfDigit : Bool → ℕ → ℕ
-halfDigit high b = hexDigit (cond high (b / 16) (b % 16))
-
 unfoldable pub hexOf : List ℕ → List ℕ
 hexOf [] = []
-hexOf (b ∷ l) = halfDigit true b ∷ halfDigit false b ∷ hexOf l
+hexOf (b ∷ l) = hexDigit (b / 16) ∷ hexDigit (b % 16) ∷ hexOf l
 
 -- bytes as they are printed: "`-` for none"
 unfoldable pub spelled : List ℕ → List ℕ

@@ -1,5 +1,5 @@
 -- Laws of hex digits: digit by digit and byte by byte.
-use mathlib.Core.Bool.{Bool, true, false, _&&_, _||_, false≢true}
+use mathlib.Core.Bool.{Bool, true, false, cond, _&&_, _||_, false≢true}
 use mathlib.Core.List.{List, [], _∷_}
 use mathlib.Core.Path.{_≡_, refl}
 use Prim.Native.Nat.{ℕ, zero, suc, _+_, _-_, _*_, _/_, _%_, _≤_, _<_}
@@ -8,7 +8,7 @@ use borrow.Author.Tests.{lt-ltb, le-ltb, leb-true}
 use lib.Dec.{eqb, leb}
 use lib.ListN.{length, getD}
 use Rattle.text.specs.Steps.{split}
-use Rattle.replay_text.specs.Hex.{isHex, worth, bytesOf, halfDigit, hexOf, spelled}
+use Rattle.replay_text.specs.Hex.{isHex, worth, bytesOf, hexDigit, hexOf, spelled}
 
 -- ---- one digit
 
@@ -79,7 +79,7 @@ unfolding hexOf
 length-hex [] = refl
 length-hex (b ∷ l) = rw (length-hex l) (omega arith)
 
-pub digit-at : (l : List ℕ) (i : ℕ) → i < 2 * length l → getD (hexOf l) i 0 ≡ halfDigit (eqb (i % 2) 0) (getD l (i / 2) 0)
+pub digit-at : (l : List ℕ) (i : ℕ) → i < 2 * length l → getD (hexOf l) i 0 ≡ hexDigit (cond (eqb (i % 2) 0) (getD l (i / 2) 0 / 16) (getD l (i / 2) 0 % 16))
 unfolding hexOf
 digit-at [] i h = absurd (omega arith)
 digit-at (b ∷ l) zero h = refl

@@ -1,4 +1,4 @@
--- What is printed reads back: bytes as digits are BYTES of as many, and spell the same bytes.
+-- What is printed reads back.
 use mathlib.Core.Bool.{true, false, and-false}
 use mathlib.Core.List.{List, [], _∷_}
 use mathlib.Core.Path.{_≡_, refl}
@@ -10,7 +10,7 @@ use lib.ListN.{length}
 use Rattle.octets.specs.NumberLaws.{AllBytes}
 use Rattle.octets.specs.Same.{sameBytes}
 use Rattle.text.specs.Steps.{split}
-use Rattle.replay_text.specs.Hex.{isHex, worth, allHex, sizeOf, bytesOf, hexDigit, halfDigit, hexOf, spelled}
+use Rattle.replay_text.specs.Hex.{isHex, worth, allHex, sizeOf, bytesOf, hexDigit, hexOf, spelled}
 use Rattle.replay_text.specs.HexLaws.{worth-figure, worth-letter, length-hex}
 use Rattle.replay_text.specs.declared.hex.Size.the-variants.{Is}
 
@@ -34,25 +34,23 @@ digit-reads n h =
     let d : isHex (87 + n % 16) ≡ true = letter-hex (87 + n % 16) (omega arith) (omega arith) in
     (rw e d, rw (e, worth-letter (87 + n % 16) d (omega arith)) (omega arith)))
 
-high-reads : (b : ℕ) → b < 256 → (isHex (halfDigit true b) ≡ true) × (worth (halfDigit true b) ≡ b / 16)
-unfolding halfDigit
-high-reads b h = digit-reads (b / 16) (omega arith)
-
-low-reads : (b : ℕ) → b < 256 → (isHex (halfDigit false b) ≡ true) × (worth (halfDigit false b) ≡ b % 16)
-unfolding halfDigit
-low-reads b h = digit-reads (b % 16) (omega arith)
-
 pub reads-back : (l : List ℕ) → AllBytes l → bytesOf (hexOf l) ≡ l
 unfolding bytesOf hexOf
 reads-back [] h = refl
 reads-back (b ∷ l) h =
     let e : b / 16 * 16 + b % 16 ≡ b = omega arith in
-    rw (high-reads b (h 0) .1, low-reads b (h 0) .1, e, reads-back l (λ i. h (suc i)))
+    rw (digit-reads (b / 16) (omega (arith, h 0)) .1, digit-reads (b % 16) (omega arith) .1, e, reads-back l (λ i. h (suc i)))
+
+-- also where there is none
+pub spelled-back : (l : List ℕ) → AllBytes l → bytesOf (spelled l) ≡ l
+unfolding bytesOf spelled
+spelled-back [] h = refl
+spelled-back (b ∷ l) h = reads-back (b ∷ l) h
 
 digits-hex : (l : List ℕ) → AllBytes l → allHex (hexOf l) ≡ true
 unfolding allHex hexOf
 digits-hex [] h = refl
-digits-hex (b ∷ l) h = rw (high-reads b (h 0) .0, low-reads b (h 0) .0, digits-hex l (λ i. h (suc i)))
+digits-hex (b ∷ l) h = rw (digit-reads (b / 16) (omega (arith, h 0)) .0, digit-reads (b % 16) (omega arith) .0, digits-hex l (λ i. h (suc i)))
 
 digits-size : (w : List ℕ) (n : ℕ) → sameBytes w (45 ∷ []) ≡ false → length w ≡ 2 * suc n → allHex w ≡ true → sizeOf w ≡ Is (suc n)
 unfolding sizeOf
@@ -64,9 +62,9 @@ no-dash : (x y : ℕ) (w : List ℕ) → sameBytes (x ∷ y ∷ w) (45 ∷ []) �
 unfolding sameBytes
 no-dash x y w = and-false (eqb x 45)
 
--- also where there is none
+-- and the size that is read is how many bytes there were
 pub size-back : (l : List ℕ) → AllBytes l → sizeOf (spelled l) ≡ Is (length l)
 unfolding sizeOf spelled hexOf sameBytes
 size-back [] h = refl
 size-back (b ∷ l) h =
-    digits-size (hexOf (b ∷ l)) (length l) (no-dash (halfDigit true b) (halfDigit false b) (hexOf l)) (length-hex (b ∷ l)) (digits-hex (b ∷ l) h)
+    digits-size (hexOf (b ∷ l)) (length l) (no-dash (hexDigit (b / 16)) (hexDigit (b % 16)) (hexOf l)) (length-hex (b ∷ l)) (digits-hex (b ∷ l) h)

@@ -8,12 +8,9 @@ use Rattle.octets.specs.Lists.{over}
 use Rattle.replay_text.specs.declared.letters.Letters.{Letters}
 
 -- "A active, P passive"
-abbrev pub isLetter : ℕ → Bool
-isLetter b = eqb b 65 || eqb b 80
-
 unfoldable pub allLetters : List ℕ → Bool
 allLetters [] = true
-allLetters (b ∷ l) = isLetter b && allLetters l
+allLetters (b ∷ l) = (eqb b 65 || eqb b 80) && allLetters l
 
 -- which are A
 unfoldable pub flags : List ℕ → List Bool

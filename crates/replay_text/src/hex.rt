@@ -2,10 +2,12 @@
 use super::MOST;
 use lines::numbers::put;
 use octets::parts;
+ghost use mathlib.Core.Bool.{cond};
 ghost use mathlib.Core.Path.{_≡_};
+ghost use Prim.Native.Nat.{_/_, _%_};
 ghost use Rattle.octets.specs.Lists.{writeAt};
 ghost use Rattle.lines.specs.Wrote.{Wrote};
-ghost use Rattle.replay_text.specs.Hex.{isHex, worth, hexDigit, halfDigit, allHex, sizeOf, bytesOf, spelled};
+ghost use Rattle.replay_text.specs.Hex.{isHex, worth, hexDigit, allHex, sizeOf, bytesOf, spelled};
 
 // How many bytes a word spells.
 pub enum Size {
@@ -86,7 +88,7 @@ fn digit(n: u8) -> u8
 
 // The digit of a byte's higher or lower half.
 fn half(b: u8, high: bool) -> u8
-    ensures { λ r. ⌜ r ≡ halfDigit high b ⌝ }
+    ensures { λ r. ⌜ r ≡ hexDigit (cond high (b / 16) (b % 16)) ⌝ }
 {
     if high {
         return digit(b / 16);
