@@ -1,6 +1,7 @@
 // The words behind a line's first one, read by a pattern that has a letter for each:
 // n a number, l the length of a lent buffer (at most 4,096), a the length of an area (at most 65,536), b bytes (at most 4,096),
 // y one byte, s `set` or `clear`, o `yes` or `no`.
+use super::MOST;
 use super::hex;
 use super::hex::Size;
 use super::words;
@@ -13,9 +14,6 @@ ghost use lib.ListN.{getD};
 ghost use Rattle.replay_text.specs.Words.{numberOf};
 ghost use Rattle.replay_text.specs.Hex.{sizeOf, bytesOf};
 ghost use Rattle.replay_text.specs.Arguments.{none, withNumber, withHeld, refused, limit, ofNumber, choice, ofByte, told, laid, argument, argumentsOf};
-
-// No text is as long as this.
-const MOST: usize = 9223372036854775808;
 
 // What was read: the numbers in their order (a length for bytes, 1 and 0 for a choice), and how many bytes were laid into the lent row.
 pub struct Arguments {

@@ -1,7 +1,10 @@
 // Bytes as hex digits, two for each, the higher first.
+use super::MOST;
 use lines::numbers::put;
 use octets::parts;
+ghost use mathlib.Core.Bool.{cond};
 ghost use mathlib.Core.Path.{_≡_};
+ghost use Prim.Native.Nat.{_/_, _%_};
 ghost use Rattle.octets.specs.Lists.{writeAt};
 ghost use Rattle.lines.specs.Wrote.{Wrote};
 ghost use Rattle.replay_text.specs.Hex.{isHex, worth, hexDigit, allHex, sizeOf, bytesOf, spelled};
@@ -54,10 +57,10 @@ pub fn size_of(word: &[u8]) -> Size
         return Size::Is(0);
     }
     let good = (0 < word.len()) & ((word.len() % 2 == 0) & all_hex(word));
-    if !good {
-        return Size::Bad;
+    if good {
+        return Size::Is(word.len() / 2);
     }
-    Size::Is(word.len() / 2)
+    Size::Bad
 }
 
 // Writes the bytes that a word spells over `to`, from place `at` on, as far as there is room.
@@ -83,6 +86,16 @@ fn digit(n: u8) -> u8
     87 + n % 16
 }
 
+// The digit of a byte's higher or lower half.
+fn half(b: u8, high: bool) -> u8
+    ensures { λ r. ⌜ r ≡ hexDigit (cond high (b / 16) (b % 16)) ⌝ }
+{
+    if high {
+        return digit(b / 16);
+    }
+    digit(b % 16)
+}
+
 // Writes the digits of all these bytes, or "-" where there is none.
 pub fn put_bytes(out: &mut [u8], at: usize, from: &[u8]) -> usize
     ensures { λ r. ⌜ Wrote at (spelled (now (from .entry))) (now (out .entry)) (now (out .exit)) r ⌝ }
@@ -90,13 +103,13 @@ pub fn put_bytes(out: &mut [u8], at: usize, from: &[u8]) -> usize
     if from.len() == 0 {
         return put(out, at, b"-");
     }
-    let mut place = put(out, at, b"");
+    let size = 2 * from.len();
+    let start = parts::least(at, out.len());
+    let count = parts::least(size, out.len() - start);
     let mut i = 0;
-    while i < from.len() {
-        let b = from[i];
-        let two = [digit(b / 16), digit(b % 16)];
-        place = put(out, place, &two);
+    while i < count {
+        out[start + i] = half(from[i / 2], i % 2 == 0);
         i += 1;
     }
-    place
+    parts::sum(at, size, MOST)
 }

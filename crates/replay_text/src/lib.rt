@@ -6,3 +6,6 @@ pub mod hex;
 pub mod letters;
 pub mod shown;
 pub mod words;
+
+// No row is as long as this.
+const MOST: usize = 9223372036854775808;
