@@ -49,7 +49,7 @@ impl Composer {
     }
 
     fn several(&mut self, call: fn(&mut Composer)) {
-        for _ in 0..self.random.between(2, 6) {
+        for _ in 0..self.random.between(3, 8) {
             call(self);
         }
     }

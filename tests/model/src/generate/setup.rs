@@ -51,6 +51,10 @@ impl Setup {
         if random.chance(1, 4) {
             refusals.push(random.between(*REFUSALS.start(), *REFUSALS.end()));
         }
+        // A CODE too many and a CODE too few could come out even.
+        if refusals.contains(&414) {
+            refusals.retain(|refusal| !matches!(refusal, 407 | 408));
+        }
         // Syntax comes last: the other breaks look for their tokens in whole statements.
         refusals.sort_by_key(|&refusal| refusal == 404);
         let mut plan = Plan::random(random, Style::Usual);
@@ -106,7 +110,7 @@ impl Setup {
         match random.below(4) {
             0 if arena > 0 => self.arena = arena - 1,
             1 if tables > 0 => self.tables = tables - 1,
-            2 if self.plan.msegs.len() < 16 => {
+            2 if self.plan.msegs.len() < 16 && self.text.len() < LONGEST_SETUP - 100 => {
                 let size = random.pick(&["16777216", "16384KB", "16MB", "65537", "64KB", "4096KB"]);
                 let permissions = vec!["RW"; self.plan.active.len()].join(",");
                 let index = self.plan.msegs.len();
