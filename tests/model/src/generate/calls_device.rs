@@ -9,7 +9,7 @@ const SCREEN: usize = 2;
 
 impl Composer {
     pub fn device_call(&mut self) {
-        match self.random.weighted(&[5, 3, 6, 4]) {
+        match self.random.weighted(&[3, 4, 6, 4]) {
             0 => self.read_next(),
             1 => self.read_random(),
             2 => self.write_next(),

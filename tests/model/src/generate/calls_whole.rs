@@ -6,7 +6,10 @@ use super::script::hex;
 
 impl Composer {
     pub fn configuration(&mut self) {
-        let partition = self.any_partition();
+        let partition = match self.random.chance(1, 12) {
+            true => self.inactive_partition(),
+            false => self.any_partition(),
+        };
         let length = self.random.pick(&[2_584, 2_584, 2_584, 2_583, 2_583, 2_585, 4_096, 0, 100]);
         self.script.words(format!("configuration {partition} {length}"));
     }
@@ -38,12 +41,19 @@ impl Composer {
         if self.random.chance(1, 2) {
             self.write_next();
         }
+        if self.random.chance(1, 2) {
+            self.stop_from_outside();
+        }
         match self.random.below(3) {
             0 => self.powerdown(),
             _ => self.shutdown(),
         }
         self.screen();
         self.show();
+        if self.random.chance(1, 4) {
+            // A bad state goes before a stop.
+            self.spoil_any();
+        }
         for _ in 0..self.random.between(2, 9) {
             self.any_call();
             if self.random.chance(1, 5) {
@@ -52,6 +62,16 @@ impl Composer {
         }
         self.show();
         self.restart();
+    }
+
+    /// A stop that is refused, since no active partition asks for it.
+    fn stop_from_outside(&mut self) {
+        let partition = self.inactive_partition();
+        let line = match self.random.below(2) {
+            0 => format!("shutdown {partition} 62796500"),
+            _ => format!("powerdown {partition}"),
+        };
+        self.script.words(line);
     }
 
     /// One of the fourteen calls, each as likely as another.

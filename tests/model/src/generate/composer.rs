@@ -70,6 +70,19 @@ impl Composer {
         }
     }
 
+    /// A passive partition or one that is not there.
+    pub fn inactive_partition(&mut self) -> usize {
+        let active = match &self.known.plan {
+            Some(plan) => plan.active.clone(),
+            None => Vec::new(),
+        };
+        let passive: Vec<usize> = (0..active.len()).filter(|&place| !active[place]).collect();
+        if !passive.is_empty() && self.random.chance(1, 2) {
+            return self.random.pick(&passive);
+        }
+        self.random.pick(&[active.len(), 8, 9, 255, 256, 65_536, 4_294_967_295])
+    }
+
     /// Mostly an active partition; now and then a passive, unknown or huge one.
     pub fn any_partition(&mut self) -> usize {
         match self.random.weighted(&[92, 5, 3]) {

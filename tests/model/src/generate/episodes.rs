@@ -18,7 +18,7 @@ impl Composer {
     }
 
     pub fn episode(&mut self) {
-        match self.random.weighted(&[24, 20, 16, 2, 6, 5, 6, 6, 5, 3, 4, 2, 2, 6, 5, 1]) {
+        match self.random.weighted(&[24, 20, 17, 4, 9, 5, 6, 6, 5, 4, 4, 2, 2, 7, 5, 1]) {
             0 => self.several(Composer::device_call),
             1 => self.several(Composer::memory_call),
             2 => self.several(Composer::user_call),
@@ -49,7 +49,7 @@ impl Composer {
     }
 
     fn several(&mut self, call: fn(&mut Composer)) {
-        for _ in 0..self.random.between(3, 8) {
+        for _ in 0..self.random.between(4, 9) {
             call(self);
         }
     }
@@ -102,6 +102,11 @@ impl Composer {
         self.known.accounts = accounts;
         self.known.stopped = stopped;
         self.mend(area);
+    }
+
+    pub fn spoil_any(&mut self) {
+        let area = self.random.pick(&[ARENA, TABLES, SCREENS, STORE]);
+        self.spoil(area);
     }
 
     fn spoil(&mut self, area: usize) {

@@ -2,6 +2,7 @@
 
 use super::passwords;
 use super::random::Random;
+use super::setup::LONGEST_AREA;
 
 #[derive(Clone, Copy, PartialEq, Eq, Debug)]
 pub enum Permission {
@@ -166,10 +167,11 @@ impl Plan {
 
     fn add_accounts(&mut self, random: &mut Random, style: Style) {
         let crowded = random.pick(&self.active_partitions());
+        let all_crowded = random.chance(1, 8);
         for partition in 0..self.active.len() {
             let count = match style {
                 Style::Tiny => random.below(2),
-                Style::Full if partition == crowded => random.pick(&[63, 64, 64]),
+                Style::Full if partition == crowded || all_crowded => random.pick(&[63, 64, 64]),
                 _ => random.pick(&[0, 1, 2, 2, 3, 4, 6]),
             };
             if self.active[partition] {
@@ -192,6 +194,19 @@ impl Plan {
             let path = random.pick(&[&b"/scos/pw9"[..], b"/scos/", b"xy", b"\x00\xff", b"/scos/pw00"]);
             self.files.push(File { path: path.to_vec(), contents: random.bytes(3) });
         }
+        if random.chance(1, 80) {
+            self.fill_store(random);
+        }
+    }
+
+    /// One more file that brings the store to the greatest length a replay text can give it.
+    fn fill_store(&mut self, random: &mut Random) {
+        const FILE_HEADER: usize = 7;
+        let path = b"/the rest";
+        let taken: usize =
+            self.files.iter().map(|file| FILE_HEADER + file.path.len() + file.contents.len()).sum();
+        let rest = LONGEST_AREA.saturating_sub(taken + FILE_HEADER + path.len());
+        self.files.push(File { path: path.to_vec(), contents: random.bytes(rest) });
     }
 }
 
@@ -213,8 +228,15 @@ impl Paths {
         const FIRST: &[u8; 36] = b"0123456789ABCDEFGHIJKLMNOPQRSTUVWXYZ";
         const PLAIN: &[u8] = b"abcxyz019./-_=[]'~!:RWNAOCODE";
         const QUOTED: &[u8] = b"ab ,;{} /.=c";
-        let mut path = vec![b'/', FIRST[self.serial % 36]];
         self.serial += 1;
+        // Near misses of the reserved beginning; each belongs to one serial, so none comes twice.
+        match self.serial {
+            3 if random.chance(1, 6) => return b"/scos".to_vec(),
+            4 if random.chance(1, 6) => return b"/scosx/pw0".to_vec(),
+            5 if random.chance(1, 6) => return b"/SCOS/pw0".to_vec(),
+            _ => {}
+        }
+        let mut path = vec![b'/', FIRST[self.serial % 36]];
         let length = random.pick(&[2, 3, 5, 8, 8, 9, 12, 20, 62, 63]);
         let letters = if random.chance(1, 3) { QUOTED } else { PLAIN };
         while path.len() < length {

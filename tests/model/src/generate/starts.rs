@@ -2,7 +2,10 @@
 
 use super::composer::{Composer, ARENA, SCREENS, STORE, TABLES};
 use super::script::hex;
-use super::setup::{needs, Setup};
+use super::setup::{needs, Setup, LONGEST_AREA};
+
+/// The longest set-up text that a replay text can give.
+const LONGEST_TEXT: usize = 20_000;
 
 impl Composer {
     pub fn accepted_start(&mut self) {
@@ -19,7 +22,7 @@ impl Composer {
 
     /// A start on what stands there already, or on a new set-up where that would not do.
     pub fn restart(&mut self) {
-        if !self.ready_as_is() || self.random.chance(1, 3) {
+        if !self.ready_as_is() || self.random.chance(1, 5) {
             return self.accepted_start();
         }
         self.restore_lengths();
@@ -72,11 +75,22 @@ impl Composer {
                 _ => self.append(b"image ", &setup.image),
             }
         }
+        self.overfill(&setup);
         self.text_length = setup.text.len();
         self.lengths[STORE] = setup.image.len();
         self.store_spoiled = false;
         self.store_fresh = true;
         self.next = Some(setup);
+    }
+
+    /// Where text or store are full, a line that would go beyond: it is bad and appends nothing.
+    fn overfill(&mut self, setup: &Setup) {
+        if setup.text.len() + 2 > LONGEST_TEXT {
+            self.script.line(b"text 2020");
+        }
+        if setup.image.len() == LONGEST_AREA {
+            self.script.line(b"image 00");
+        }
     }
 
     pub fn clear(&mut self) {
