@@ -87,12 +87,19 @@ fn measure(count: &mut Count, program: &str, name: &str, text: &[u8]) -> Option<
         let well = outcome.ended_well && outcome.output == expected;
         if run == 0 || !well {
             let bytes = grouped(text.len() as u64);
-            count.check(well, &format!("{name}: {bytes} bytes, as the model, {}", outcome.status));
+            count.check(
+                well,
+                &format!("{name}: {bytes} bytes, as the model, {}", outcome.status),
+            );
         }
         time = time.min(outcome.time);
     }
     let peak = child::peak_memory(program, text).unwrap_or(0);
-    println!("       {name}: {} ms, peak {} KiB", time.as_millis(), grouped(peak));
+    println!(
+        "       {name}: {} ms, peak {} KiB",
+        time.as_millis(),
+        grouped(peak)
+    );
     Some(Measured { time, peak })
 }
 
@@ -100,7 +107,11 @@ fn measure(count: &mut Count, program: &str, name: &str, text: &[u8]) -> Option<
 fn compare(count: &mut Count, name: &str, once: &Measured, ten_times: &Measured) {
     let apart = ten_times.peak.abs_diff(once.peak);
     let known = once.peak > 0 && ten_times.peak > 0;
-    let what = format!("{name}: peak memory {} and {} KiB", grouped(once.peak), grouped(ten_times.peak));
+    let what = format!(
+        "{name}: peak memory {} and {} KiB",
+        grouped(once.peak),
+        grouped(ten_times.peak)
+    );
     count.check(known && apart <= SAME_MEMORY, &what);
     if once.time < MEASURABLE {
         return;

@@ -2,6 +2,8 @@
 
 use std::io::{Read, Result, Write};
 use std::process::{Child, Command, Stdio};
+use std::sync::mpsc::{channel, RecvTimeoutError};
+use std::sync::Mutex;
 use std::thread;
 use std::time::{Duration, Instant};
 
@@ -12,8 +14,14 @@ pub struct Outcome {
     pub time: Duration,
 }
 
+/// A program that takes longer hangs, and is ended.
+const LONGEST_RUN: Duration = Duration::from_secs(120);
+
 fn spawn(program: &str) -> Result<Child> {
-    Command::new(program).stdin(Stdio::piped()).stdout(Stdio::piped()).spawn()
+    Command::new(program)
+        .stdin(Stdio::piped())
+        .stdout(Stdio::piped())
+        .spawn()
 }
 
 /// Runs the program on a text. A thread of its own writes the text, since the program may answer
@@ -23,17 +31,32 @@ pub fn run(program: &str, text: &[u8]) -> Result<Outcome> {
     let mut child = spawn(program)?;
     let mut stdin = child.stdin.take().expect("piped");
     let mut stdout = child.stdout.take().expect("piped");
+    let child = Mutex::new(child);
     let mut output = Vec::new();
+    let (done, wait_for_done) = channel::<()>();
+    let watched = &child;
     thread::scope(|scope| {
         scope.spawn(move || {
             // A program that ends early closes the pipe; its status tells.
             let _ = stdin.write_all(text);
         });
-        stdout.read_to_end(&mut output)
+        scope.spawn(move || {
+            if wait_for_done.recv_timeout(LONGEST_RUN) == Err(RecvTimeoutError::Timeout) {
+                let _ = watched.lock().expect("not poisoned").kill();
+            }
+        });
+        let read = stdout.read_to_end(&mut output);
+        drop(done);
+        read
     })?;
-    let status = child.wait()?;
+    let status = child.into_inner().expect("not poisoned").wait()?;
     let time = begun.elapsed();
-    Ok(Outcome { output, ended_well: status.code() == Some(0), status: status.to_string(), time })
+    Ok(Outcome {
+        output,
+        ended_well: status.code() == Some(0),
+        status: status.to_string(),
+        time,
+    })
 }
 
 /// The greatest resident memory of the program on a text, in KiB. The last byte is held back
@@ -65,12 +88,18 @@ fn peak_when_asleep(process: u32) -> u64 {
     let mut peak = 0;
     let mut asleep = 0;
     for _ in 0..30_000 {
-        let Ok(status) = std::fs::read_to_string(format!("/proc/{process}/status")) else { break };
+        let Ok(status) = std::fs::read_to_string(format!("/proc/{process}/status")) else {
+            break;
+        };
         match field(&status, "VmHWM:").and_then(|number| number.parse().ok()) {
             Some(number) => peak = number,
             None => break,
         }
-        asleep = if field(&status, "State:") == Some("S") { asleep + 1 } else { 0 };
+        asleep = if field(&status, "State:") == Some("S") {
+            asleep + 1
+        } else {
+            0
+        };
         if asleep >= 4 {
             break;
         }

@@ -18,7 +18,10 @@ impl Composer {
     }
 
     pub fn episode(&mut self) {
-        match self.random.weighted(&[24, 20, 17, 4, 9, 5, 6, 6, 5, 4, 4, 2, 2, 7, 5, 1]) {
+        match self
+            .random
+            .weighted(&[24, 20, 17, 4, 9, 5, 6, 6, 5, 4, 4, 2, 2, 7, 5, 1])
+        {
             0 => self.several(Composer::device_call),
             1 => self.several(Composer::memory_call),
             2 => self.several(Composer::user_call),
@@ -83,7 +86,9 @@ impl Composer {
 
     /// An area of another length, or tables overwritten, and the calls that are lent it.
     fn area_story(&mut self) {
-        let area = self.random.pick(&[ARENA, TABLES, TABLES, SCREENS, SCREENS, STORE, STORE]);
+        let area = self
+            .random
+            .pick(&[ARENA, TABLES, TABLES, SCREENS, SCREENS, STORE, STORE]);
         let logins = self.known.logins;
         let accounts = self.known.accounts.clone();
         let stopped = self.known.stopped;
@@ -120,7 +125,11 @@ impl Composer {
             1 => length + 1,
             _ => length.saturating_sub(1),
         };
-        let other = if other == length && area != TABLES { length + 1 } else { other };
+        let other = if other == length && area != TABLES {
+            length + 1
+        } else {
+            other
+        };
         self.set_length(area, other.min(65_535));
     }
 

@@ -109,7 +109,8 @@ impl Composer {
 
     fn announce_soft(&mut self, soft: bool) {
         if self.soft != soft || self.random.chance(1, 3) {
-            self.script.line(if soft { b"soft yes" } else { b"soft no" });
+            self.script
+                .line(if soft { b"soft yes" } else { b"soft no" });
             self.soft = soft;
         }
     }
@@ -151,7 +152,9 @@ impl Composer {
     /// Clears text and store and appends the same again: the terminal does not notice, though
     /// what was written to the store meanwhile is gone.
     pub fn replace_store(&mut self, altered: bool) {
-        let Some(setup) = self.next.clone() else { return };
+        let Some(setup) = self.next.clone() else {
+            return;
+        };
         if setup.refused {
             return;
         }
@@ -184,7 +187,8 @@ impl Composer {
         let letters = self.letters.clone();
         let bad: &[&[u8]] = &[b"P", b"PP", b"AAAAAAAAAAAA", b"PPPPPPPPA"];
         self.letters = self.random.pick(bad).to_vec();
-        self.script.line(&[b"partitions ", &self.letters[..]].concat());
+        self.script
+            .line(&[b"partitions ", &self.letters[..]].concat());
         self.script.line(b"start");
         self.announce_partitions(&letters);
     }

@@ -90,13 +90,17 @@ impl Tally {
             self.bad_lines += 1;
             return;
         }
-        let Some(call) = CALLS.iter().position(|call| call.as_bytes() == word(line)) else { return };
+        let Some(call) = CALLS.iter().position(|call| call.as_bytes() == word(line)) else {
+            return;
+        };
         self.calls += 1;
         let number = std::str::from_utf8(answer).unwrap_or("").split(' ').nth(1);
         let number = number.and_then(|digits| digits.parse::<u16>().ok());
         match number.and_then(|number| NUMBERS.iter().position(|&known| known == number)) {
             Some(column) => self.counts[call][column] += 1,
-            None => self.strange.push(String::from_utf8_lossy(answer).into_owned()),
+            None => self
+                .strange
+                .push(String::from_utf8_lossy(answer).into_owned()),
         }
     }
 
@@ -130,7 +134,10 @@ impl Tally {
 
     /// The table, in two bands so that a line stays readable; a dot is a cell that cannot arise.
     pub fn table(&self) -> String {
-        let split = NUMBERS.iter().position(|&number| number >= 401).unwrap_or(NUMBERS.len());
+        let split = NUMBERS
+            .iter()
+            .position(|&number| number >= 401)
+            .unwrap_or(NUMBERS.len());
         [self.band(0..split), self.band(split..NUMBERS.len())].join("\n")
     }
 
