@@ -101,6 +101,23 @@ impl Composer {
         self.script.line(&line);
     }
 
+    /// Lines that look odd and are good: leading zeros, nothing to append, numbers for nobody.
+    pub fn odd_good_line(&mut self) {
+        let partition = self.active_partition();
+        let line = match self.random.below(9) {
+            0 => format!("who 00{partition} 0000000000000000000033"),
+            1 => format!("load 0{partition} 000256 00 01"),
+            2 => format!("screen 00000000000{partition}"),
+            3 => format!("read_random {partition} 02 0{partition} 01999 0000000000005 005"),
+            4 => format!("flush 0{partition} 0256 04294967295"),
+            5 => "text -".to_string(),
+            6 => "image -".to_string(),
+            7 => "screen 4294967295".to_string(),
+            _ => "fault 4294967295 4294967295 set".to_string(),
+        };
+        self.script.words(line);
+    }
+
     /// A comment or an empty line: nothing is answered, and the lines are still counted.
     pub fn passed_over(&mut self) {
         let lines: &[&[u8]] = &[b"", b"# a comment", b"#", b"#start", b"# \x00\xff\r", b"##"];

@@ -164,9 +164,9 @@ fn missing_file(random: &mut Random, plan: &mut Plan, statements: &mut [Statemen
         return plan.files.retain(|file| file.path != gone);
     }
     let paths: [&[u8]; 6] = [
-        b"/scos",
-        b"/scosx/pw0",
-        b"/SCOS/pw0",
+        b"/scos2",
+        b"/scosy/pw0",
+        b"/Scos/pw0",
         b"/not there",
         b"//scos/pw0",
         b"/zz",
@@ -252,4 +252,34 @@ fn no_code(random: &mut Random, statements: &mut Vec<Statement>) {
         .filter(|&place| statements[place].is_code())
         .collect();
     statements.remove(random.pick(&places));
+}
+
+/// One statement with several things wrong at once: which of them is answered shows the order.
+pub fn several_wrongs(random: &mut Random, plan: &Plan, statements: &mut [Statement]) {
+    let place = random.below(statements.len());
+    let Some(statement) = statements.get_mut(place) else {
+        return;
+    };
+    let count = plan.active.len();
+    if random.chance(1, 2) {
+        statement.tokens[INDEX] = format!("{}", random.pick(&[count, 16, 99])).into_bytes();
+    }
+    if statement.is_code() {
+        statement.tokens[CODE_PATH] = random.pick(&[&b"/scos/pw0"[..], b"/none"]).to_vec();
+        return;
+    }
+    if random.chance(1, 2) {
+        statement.tokens[HOST] = format!("{count}").into_bytes();
+    }
+    if random.chance(1, 2) {
+        let taken = path_token(random, &plan.codes[0].1);
+        let paths: &[&[u8]] = &[b"/scos/pw0", b"/none", &taken];
+        let sizes: &[&[u8]] = &[b"0", b"17MB"];
+        let subjects = if statement.is_dseg() { paths } else { sizes };
+        statement.tokens[SUBJECT] = random.pick(subjects).to_vec();
+    }
+    if random.chance(1, 2) {
+        let number = random.pick(&[count, count + 1]);
+        statement.set_permissions(&vec![Permission::NoAccess; number]);
+    }
 }

@@ -5,6 +5,8 @@ use super::passwords::{self, DIGEST};
 use super::script::hex;
 
 const LONGEST_STRING: usize = 32;
+/// The most bytes that a line can lend to a call.
+const LONGEST_PART: usize = 4_096;
 
 impl Composer {
     pub fn user_call(&mut self) {
@@ -110,6 +112,9 @@ impl Composer {
         if self.random.chance(1, 5) {
             let more = self.random.pick(&[1, 2, 40]);
             lent.extend_from_slice(&self.random.bytes(more));
+        }
+        if self.random.chance(1, 100) {
+            lent.resize(LONGEST_PART, b'x');
         }
         lent
     }

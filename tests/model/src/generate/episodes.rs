@@ -58,10 +58,12 @@ impl Composer {
     }
 
     fn odd_lines(&mut self) {
-        if self.random.chance(1, 3) {
-            return self.passed_over();
+        match self.random.below(6) {
+            0 | 1 => return self.passed_over(),
+            2 => return self.odd_good_line(),
+            _ => {}
         }
-        for _ in 0..self.random.between(1, 2) {
+        for _ in 0..self.random.between(1, 3) {
             self.bad_line();
         }
     }

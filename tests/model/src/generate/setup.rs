@@ -1,6 +1,6 @@
 //! Everything a start reads: partitions, areas, text and image, good or broken in one way or two.
 
-use super::broken_meaning::break_meaning;
+use super::broken_meaning::{break_meaning, several_wrongs};
 use super::broken_syntax::break_syntax;
 use super::image;
 use super::passwords;
@@ -48,7 +48,7 @@ impl Setup {
     /// that the order of the checks shows.
     pub fn broken(random: &mut Random) -> Setup {
         let mut refusals = vec![random.between(*REFUSALS.start(), *REFUSALS.end())];
-        if random.chance(1, 4) {
+        if random.chance(1, 3) {
             refusals.push(random.between(*REFUSALS.start(), *REFUSALS.end()));
         }
         // A CODE too many and a CODE too few could come out even.
@@ -62,6 +62,9 @@ impl Setup {
             fill_segments(random, &mut plan);
         }
         let mut statements = statements::of(random, &plan);
+        if random.chance(1, 8) {
+            several_wrongs(random, &plan, &mut statements);
+        }
         for &refusal in &refusals {
             match refusal {
                 404 => break_syntax(random, &mut statements),

@@ -175,8 +175,9 @@ impl Composer {
 
     /// A start that is refused for a small thing, while a terminal runs.
     pub fn refused_restart(&mut self) {
-        match self.random.below(4) {
+        match self.random.below(5) {
             0 => self.restart_without_partitions(),
+            3 => self.restart_with_one_letter_changed(),
             1 => self.restart_on_short_area(),
             2 => self.restart_on_longer_text(),
             _ => self.refused_start(),
@@ -190,6 +191,18 @@ impl Composer {
         self.script
             .line(&[b"partitions ", &self.letters[..]].concat());
         self.script.line(b"start");
+        self.announce_partitions(&letters);
+    }
+
+    /// A partition that turns active has no CODE, one that turns passive has one too many.
+    fn restart_with_one_letter_changed(&mut self) {
+        let letters = self.letters.clone();
+        let place = self.random.below(letters.len());
+        let mut changed = letters.clone();
+        changed[place] = if letters[place] == b'A' { b'P' } else { b'A' };
+        self.script.line(&[b"partitions ", &changed[..]].concat());
+        self.script.line(b"start");
+        self.letters = changed;
         self.announce_partitions(&letters);
     }
 
