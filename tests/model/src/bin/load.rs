@@ -30,7 +30,8 @@ impl Count {
     }
 }
 
-/// What was measured on one text.
+/// What was measured on one text; the time is that on a processor, so that other work on the
+/// machine does not count as growth.
 struct Measured {
     time: Duration,
     peak: u64,
@@ -94,13 +95,18 @@ fn measure(count: &mut Count, program: &str, name: &str, text: &[u8]) -> Option<
         }
         time = time.min(outcome.time);
     }
-    let peak = child::peak_memory(program, text).unwrap_or(0);
+    let needed = child::needed(program, text).unwrap_or_default();
+    // Where the machine keeps no record of processor time, the clock has to do.
+    let processor = needed.processor.unwrap_or(time);
+    let (clock, peak) = (time.as_millis(), grouped(needed.peak_kib));
     println!(
-        "       {name}: {} ms, peak {} KiB",
-        time.as_millis(),
-        grouped(peak)
+        "       {name}: {clock} ms, on a processor {} ms, peak {peak} KiB",
+        processor.as_millis()
     );
-    Some(Measured { time, peak })
+    Some(Measured {
+        time: processor,
+        peak: needed.peak_kib,
+    })
 }
 
 /// The ten times longer text beside the single one.
@@ -117,7 +123,7 @@ fn compare(count: &mut Count, name: &str, once: &Measured, ten_times: &Measured)
         return;
     }
     let what = format!(
-        "{name}: {} ms, ten times {} ms",
+        "{name}: on a processor {} ms, ten times {} ms",
         once.time.as_millis(),
         ten_times.time.as_millis()
     );
