@@ -30,7 +30,8 @@ impl Count {
     }
 }
 
-/// What was measured on one text.
+/// What was measured on one text; the time is that on a processor, so that other work on the
+/// machine does not count as growth.
 struct Measured {
     time: Duration,
     peak: u64,
@@ -87,26 +88,42 @@ fn measure(count: &mut Count, program: &str, name: &str, text: &[u8]) -> Option<
         let well = outcome.ended_well && outcome.output == expected;
         if run == 0 || !well {
             let bytes = grouped(text.len() as u64);
-            count.check(well, &format!("{name}: {bytes} bytes, as the model, {}", outcome.status));
+            count.check(
+                well,
+                &format!("{name}: {bytes} bytes, as the model, {}", outcome.status),
+            );
         }
         time = time.min(outcome.time);
     }
-    let peak = child::peak_memory(program, text).unwrap_or(0);
-    println!("       {name}: {} ms, peak {} KiB", time.as_millis(), grouped(peak));
-    Some(Measured { time, peak })
+    let needed = child::needed(program, text).unwrap_or_default();
+    // Where the machine keeps no record of processor time, the clock has to do.
+    let processor = needed.processor.unwrap_or(time);
+    let (clock, peak) = (time.as_millis(), grouped(needed.peak_kib));
+    println!(
+        "       {name}: {clock} ms, on a processor {} ms, peak {peak} KiB",
+        processor.as_millis()
+    );
+    Some(Measured {
+        time: processor,
+        peak: needed.peak_kib,
+    })
 }
 
 /// The ten times longer text beside the single one.
 fn compare(count: &mut Count, name: &str, once: &Measured, ten_times: &Measured) {
     let apart = ten_times.peak.abs_diff(once.peak);
     let known = once.peak > 0 && ten_times.peak > 0;
-    let what = format!("{name}: peak memory {} and {} KiB", grouped(once.peak), grouped(ten_times.peak));
+    let what = format!(
+        "{name}: peak memory {} and {} KiB",
+        grouped(once.peak),
+        grouped(ten_times.peak)
+    );
     count.check(known && apart <= SAME_MEMORY, &what);
     if once.time < MEASURABLE {
         return;
     }
     let what = format!(
-        "{name}: {} ms, ten times {} ms",
+        "{name}: on a processor {} ms, ten times {} ms",
         once.time.as_millis(),
         ten_times.time.as_millis()
     );

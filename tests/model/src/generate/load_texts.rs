@@ -11,8 +11,14 @@ pub struct Unit {
     pub calls: usize,
 }
 
-pub const SMALL: Unit = Unit { bytes: 100_000, calls: 1_000 };
-pub const LARGE: Unit = Unit { bytes: 1_000_000, calls: 10_000 };
+pub const SMALL: Unit = Unit {
+    bytes: 100_000,
+    calls: 1_000,
+};
+pub const LARGE: Unit = Unit {
+    bytes: 1_000_000,
+    calls: 10_000,
+};
 
 const MEGABYTE: usize = 1_000_000;
 
@@ -22,7 +28,10 @@ pub struct Kind {
 }
 
 fn kind(name: &str, text: Vec<u8>) -> Kind {
-    Kind { name: name.to_string(), text }
+    Kind {
+        name: name.to_string(),
+        text,
+    }
 }
 
 /// The kinds that are run once and ten times over.
@@ -33,10 +42,19 @@ pub fn kinds(unit: Unit) -> Vec<Kind> {
         kind("many calls", run_of_calls(unit.calls)),
         kind("long hex lines", hex_line(MEGABYTE)),
         kind("long comments", filled_line(b"# ", b'c', MEGABYTE)),
-        kind("long noise lines", [&noise(&mut random, MEGABYTE)[..], b"\n"].concat()),
-        kind("long lines of letters", filled_line(b"partitions ", b'A', MEGABYTE)),
+        kind(
+            "long noise lines",
+            [&noise(&mut random, MEGABYTE)[..], b"\n"].concat(),
+        ),
+        kind(
+            "long lines of letters",
+            filled_line(b"partitions ", b'A', MEGABYTE),
+        ),
         kind("bytes of every kind", random.bytes(unit.bytes)),
-        kind("lines of random length", random_lines(&mut random, unit.bytes)),
+        kind(
+            "lines of random length",
+            random_lines(&mut random, unit.bytes),
+        ),
         kind("no line feed", noise(&mut random, unit.bytes)),
         kind("a comment without line feed", vec![b'#'; unit.bytes]),
         kind("only line feeds", vec![b'\n'; unit.bytes]),
@@ -52,7 +70,10 @@ pub fn single() -> Vec<Kind> {
         kind("one number sign", b"#".to_vec()),
         kind("the longest good line", exact_line(131_200)),
         kind("one byte more", exact_line(131_201)),
-        kind("the longest good line, no line feed", exact_line(131_200)[..131_200].to_vec()),
+        kind(
+            "the longest good line, no line feed",
+            exact_line(131_200)[..131_200].to_vec(),
+        ),
     ]
 }
 
@@ -78,7 +99,10 @@ fn run_of_calls(calls: usize) -> Vec<u8> {
 
 fn begun(seed: u64) -> Composer {
     let mut composer = Composer::new(seed);
-    for line in FROM_THE_BEGINNING.split(|&byte| byte == b'\n').filter(|line| !line.is_empty()) {
+    for line in FROM_THE_BEGINNING
+        .split(|&byte| byte == b'\n')
+        .filter(|line| !line.is_empty())
+    {
         composer.script.line(line);
     }
     composer.accepted_start();

@@ -33,7 +33,7 @@ pub fn text(seed: u64) -> Vec<u8> {
     let mut composer = Composer::new(seed);
     let lines = match composer.random.below(12) {
         0 => composer.random.between(1, 40),
-        _ => composer.random.between(190, 260),
+        _ => composer.random.between(200, 270),
     };
     begin(&mut composer);
     while composer.script.lines() < lines {

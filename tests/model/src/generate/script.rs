@@ -10,7 +10,11 @@ pub struct Script {
 
 impl Script {
     pub fn new() -> Script {
-        Script { bytes: Vec::new(), lines: 0, calls: 0 }
+        Script {
+            bytes: Vec::new(),
+            lines: 0,
+            calls: 0,
+        }
     }
 
     pub fn line(&mut self, line: &[u8]) {

@@ -4,10 +4,13 @@ use super::composer::Composer;
 use super::random::Random;
 use super::setup::Setup;
 
-fn run(text: &[u8]) -> String {
+/// The answer to the last line; a line that would overfill the store may have been bad before.
+fn last_answer(composer: Composer) -> String {
+    let text = composer.script.finish(true);
     let mut output = Vec::new();
     crate::replay::run(&mut &text[..], &mut output).expect("a Vec takes everything");
-    String::from_utf8_lossy(&output).into_owned()
+    let output = String::from_utf8_lossy(&output).into_owned();
+    output.lines().last().unwrap_or("").to_string()
 }
 
 #[test]
@@ -20,20 +23,20 @@ fn a_text_is_a_function_of_its_seed() {
 
 #[test]
 fn good_setups_are_accepted() {
-    for seed in 0..2_000 {
+    for seed in 0..1_000 {
         let mut composer = Composer::new(seed);
         composer.accepted_start();
-        let answer = run(&composer.script.finish(true));
-        assert_eq!(answer, "start 0 line 0\n", "seed {seed}");
+        let answer = last_answer(composer);
+        assert_eq!(answer, "start 0 line 0", "seed {seed}");
     }
 }
 
 #[test]
 fn broken_setups_are_refused() {
-    for seed in 0..4_000 {
+    for seed in 0..3_000 {
         let mut composer = Composer::new(seed);
         composer.refused_start();
-        let answer = run(&composer.script.finish(true));
+        let answer = last_answer(composer);
         assert!(answer.starts_with("start 4"), "seed {seed}: {answer}");
     }
 }
@@ -45,7 +48,7 @@ fn every_refusal_comes_up() {
     for seed in 0..1_000 {
         let mut composer = Composer::new(seed);
         composer.refused_start();
-        let answer = run(&composer.script.finish(true));
+        let answer = last_answer(composer);
         let number: usize = answer[6..9].parse().expect("a refusal");
         seen[number - 400] = true;
     }
