@@ -1,6 +1,7 @@
 // The keyboard's queue.
 use octets::parts;
 ghost use mathlib.Core.Path.{_≡_};
+ghost use Prim.Native.Nat.{_<_};
 ghost use Rattle.devices.specs.Queue.{noKeys, queueAdd, took, queueTake};
 
 // The keys that wait, the oldest first, and how many they are. Bytes behind them are 0, so that equal queues are equal
@@ -16,6 +17,27 @@ pub struct Taken {
     pub keyboard: Keyboard,
 }
 
+// Stores a key behind the keys that wait and moves their count. There has to be room.
+fn store_key(queue: &mut Keyboard, key: u8)
+    requires { ⌜ now queue .held < 64 ⌝ }
+    ensures { λ _. ⌜ now (queue .exit) ≡ queueAdd key (now (queue .entry)) ⌝ }
+{
+    let at = queue.held;
+    queue.keys[at] = key;
+    queue.held = at + 1;
+}
+
+// The same on a queue by value, so that whoever calls this meets no reference to a struct, which the checker does not
+// follow by itself: this function and `store_key` are walked by hand, and nothing above them.
+fn stored(queue: Keyboard, key: u8) -> Keyboard
+    requires { ⌜ queue .held < 64 ⌝ }
+    ensures { λ r. ⌜ r ≡ queueAdd key queue ⌝ }
+{
+    let mut next = queue;
+    store_key(&mut next, key);
+    next
+}
+
 impl Keyboard {
     // A queue with no key.
     pub fn new() -> Keyboard
@@ -29,16 +51,13 @@ impl Keyboard {
     }
 
     // Takes a key in at the back, or drops it when 64 are held.
-    pub fn add(mut self, key: u8) -> Keyboard
+    pub fn add(self, key: u8) -> Keyboard
         ensures { λ r. ⌜ r ≡ queueAdd key self ⌝ }
     {
-        let at = self.held;
-        if 64 <= at {
+        if 64 <= self.held {
             return self;
         }
-        self.keys[at] = key;
-        self.held = at + 1;
-        self
+        stored(self, key)
     }
 
     // Takes the oldest keys out into the buffer: as many as are asked for, are held and fit.

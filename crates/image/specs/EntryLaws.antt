@@ -12,7 +12,7 @@ use Rattle.rows.specs.declared.Cursor.{Cursor}
 use Rattle.rows.specs.Records.{chunks, whole}
 use Rattle.rows.specs.LikeLaws.{by-test}
 use Rattle.rows.specs.StepLaws.{walk-met, walk-last, clash}
-use Rattle.image.specs.declared.Item.the-variants.{File, Other, Cut, End}
+use Rattle.image.specs.declared.item.Item.the-variants.{File, Other, Cut, End}
 use Rattle.image.specs.declared.Found.the-variants.{At, Nothing}
 use Rattle.image.specs.Files.{pathLength, path, contentsAt, contentsLength, goodRecord, named, spotIn, goodIn}
 use Rattle.image.specs.Items.{itemOf, itemAt, againAt}

@@ -16,7 +16,7 @@ use Rattle.rows.specs.declared.Step.the-variants as step
 use Rattle.rows.specs.Records.{size, payloadLength, kind, whole}
 use Rattle.rows.specs.Steps.{stepAt}
 use Rattle.rows.specs.StepLaws.{Passed, step-stopped, step-ended}
-use Rattle.image.specs.declared.Item.the-variants.{File, Other, Cut, End}
+use Rattle.image.specs.declared.item.Item.the-variants.{File, Other, Cut, End}
 use Rattle.image.specs.Files.{goodNumbers, pathLength, contentsAt, contentsLength, goodRecord}
 use Rattle.image.specs.Items.{itemOf, itemAt}
 

@@ -5,8 +5,8 @@ use Prim.Native.Nat.{ℕ, _+_}
 use lib.ListN.{length, drop}
 use Rattle.octets.specs.Lists.{part}
 use Rattle.rows.specs.Records.{chunks, whole}
-use Rattle.image.specs.declared.Item.{Item}
-use Rattle.image.specs.declared.Item.the-variants.{File, Other, Cut, End}
+use Rattle.image.specs.declared.item.Item.{Item}
+use Rattle.image.specs.declared.item.Item.the-variants.{File, Other, Cut, End}
 use Rattle.image.specs.Files.{pathLength, contentsLength, goodRecord, holds}
 
 -- the first of the records that stand from place `at` on: the place and length of its path, the length of its contents, and the place behind it

@@ -5,85 +5,22 @@
 use octets::parts;
 use octets::search;
 use rows::Cursor;
-use rows::Step;
+
+mod item;
+mod reader;
+
+use item::Item;
 ghost use mathlib.Core.Path.{_≡_};
-ghost use lib.ListN.{getD, drop};
-ghost use Rattle.octets.specs.Lists.{part};
+ghost use lib.ListN.{drop};
 ghost use Rattle.rows.specs.Records.{chunks};
 ghost use Rattle.image.specs.Image.{good, spot, file};
-ghost use Rattle.image.specs.Items.{itemAt, againAt};
-ghost use Rattle.image.specs.Files.{goodNumbers, spotIn};
+ghost use Rattle.image.specs.Items.{againAt};
+ghost use Rattle.image.specs.Files.{spotIn};
 
 // Where a file's contents stand.
 pub enum Found {
     At { place: usize, length: usize },
     Nothing,
-}
-
-// What stands at a cursor.
-enum Item {
-    // A good record: its path is `title` bytes from place `start` on.
-    File {
-        start: usize,
-        title: usize,
-        size: usize,
-        next: Cursor,
-    },
-    // A whole record that is not good.
-    Other {
-        next: Cursor,
-    },
-    // A record that the row's end cuts off.
-    Cut,
-    // Nothing.
-    End,
-}
-
-// The first of the `count` bytes from place `start` on; 0 where there are none.
-fn first(image: &[u8], start: usize, count: usize) -> usize
-    ensures { λ r. ⌜ r ≡ getD (part start count (now (image .entry))) 0 0 ⌝ }
-{
-    if count == 0 {
-        return 0;
-    }
-    if image.len() <= start {
-        return 0;
-    }
-    image[start] as usize
-}
-
-// Whether these are a good record's numbers: its kind, its path's length and its payload's.
-fn good_numbers(kind: u32, title: usize, count: usize) -> bool
-    ensures { λ r. ⌜ r ≡ goodNumbers kind title count ⌝ }
-{
-    (kind == 1) & ((2 <= title) & ((title <= 63) & (title < count)))
-}
-
-// The record at a cursor, as an image's.
-fn item_at(image: &[u8], cursor: Cursor) -> Item
-    ensures { λ r. ⌜ r ≡ itemAt (now (image .entry)) (cursor .at) ⌝ }
-{
-    match cursor.read(image) {
-        Step::End => Item::End,
-        Step::Cut => Item::Cut,
-        Step::Record {
-            kind,
-            start,
-            count,
-            next,
-        } => {
-            let title = first(image, start, count);
-            if good_numbers(kind, title, count) {
-                return Item::File {
-                    start: start + 1,
-                    title,
-                    size: count - (title + 1),
-                    next,
-                };
-            }
-            Item::Other { next }
-        }
-    }
 }
 
 // The first file with a path, from a cursor on.
@@ -92,7 +29,7 @@ fn find_from(image: &[u8], from: Cursor, path: &[u8]) -> Found
 {
     let mut cursor = from;
     loop {
-        match item_at(image, cursor) {
+        match reader::read(image, cursor) {
             Item::File {
                 start,
                 title,
@@ -157,7 +94,7 @@ pub fn good(image: &[u8]) -> bool
 {
     let mut cursor = Cursor::new();
     loop {
-        match item_at(image, cursor) {
+        match reader::read(image, cursor) {
             Item::File {
                 start,
                 title,

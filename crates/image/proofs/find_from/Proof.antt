@@ -19,8 +19,8 @@ abbrev μ-loop : tie.MeasureT-loop
 loop-holds : tie.Need-loop-holds Inv-loop μ-loop
 loop-holds c = refl
 
-item-at-requires : tie.Need-item-at-requires Inv-loop μ-loop
-item-at-requires c κs = search needs
+read-requires : tie.Need-read-requires Inv-loop μ-loop
+read-requires c κs = search needs
 
 enum-known-start : tie.Need-enum-known-start Inv-loop μ-loop
 enum-known-start c = search needs
@@ -35,7 +35,7 @@ add-place : tie.Need-add-place Inv-loop μ-loop
 add-place c =
     let image = c .before .before .before .before .before .before .before .before .before .before .args .image .now in
     let at = c .before .before .before .before .before .before .before .loop .cursor .at in
-    let entry = item-entry image at _ _ _ _ (sym (c .before .before .before .before .before .before .item-at .ensures) ∙ c .before .before .before .before .start .given .1) in
+    let entry = item-entry image at _ _ _ _ (sym (c .before .before .before .before .before .before .read .ensures) ∙ c .before .before .before .before .start .given .1) in
     let inside = entry .inside in
     omega arith
 
@@ -43,14 +43,14 @@ returns : tie.Need-returns Inv-loop μ-loop
 returns c =
     let image = c .before .before .before .before .before .before .before .before .before .before .args .image .now in
     let at = c .before .before .before .before .before .before .before .loop .cursor .at in
-    let entry = item-entry image at _ _ _ _ (sym (c .before .before .before .before .before .before .item-at .ensures) ∙ c .before .before .before .before .start .given .1) in
+    let entry = item-entry image at _ _ _ _ (sym (c .before .before .before .before .before .before .read .ensures) ∙ c .before .before .before .before .start .given .1) in
     sym (c .before .before .before .before .before .before .before .loop .inv ∙ spot-here image (c .before .before .before .before .before .before .before .before .before .before .args .path .now) at _ _ _ _ entry (rw (c .before .before .piece .ensures) at (sym (c .before .same .ensures) ∙ c .if1 .taken)))
 
 loop-less : tie.Need-loop-less Inv-loop μ-loop
 loop-less c =
     let image = c .before .before .before .before .before .before .before .before .before .before .args .image .now in
     let at = c .before .before .before .before .before .before .before .loop .cursor .at in
-    let entry = item-entry image at _ _ _ _ (sym (c .before .before .before .before .before .before .item-at .ensures) ∙ c .before .before .before .before .start .given .1) in
+    let entry = item-entry image at _ _ _ _ (sym (c .before .before .before .before .before .before .read .ensures) ∙ c .before .before .before .before .start .given .1) in
     let inside = entry .inside in
     let later = entry .later in
     omega arith
@@ -59,7 +59,7 @@ loop-again : tie.Need-loop-again Inv-loop μ-loop
 loop-again c =
     let image = c .before .before .before .before .before .before .before .before .before .before .args .image .now in
     let at = c .before .before .before .before .before .before .before .loop .cursor .at in
-    let entry = item-entry image at _ _ _ _ (sym (c .before .before .before .before .before .before .item-at .ensures) ∙ c .before .before .before .before .start .given .1) in
+    let entry = item-entry image at _ _ _ _ (sym (c .before .before .before .before .before .before .read .ensures) ∙ c .before .before .before .before .start .given .1) in
     c .before .before .before .before .before .before .before .loop .inv ∙ spot-on image (c .before .before .before .before .before .before .before .before .before .before .args .path .now) at _ _ _ _ entry (rw (c .before .before .piece .ensures) at (sym (c .before .same .ensures) ∙ c .if1 .left))
 
 enum-known-next : tie.Need-enum-known-next Inv-loop μ-loop
@@ -69,7 +69,7 @@ loop-less-2 : tie.Need-loop-less-2 Inv-loop μ-loop
 loop-less-2 c =
     let image = c .before .before .before .before .before .before .before .args .image .now in
     let at = c .before .before .before .before .loop .cursor .at in
-    let skipped = item-skipped image at _ (sym (c .before .before .before .item-at .ensures) ∙ c .before .next .given .1) in
+    let skipped = item-skipped image at _ (sym (c .before .before .before .read .ensures) ∙ c .before .next .given .1) in
     let inside = skipped .inside in
     let later = skipped .later in
     omega arith
@@ -78,20 +78,20 @@ loop-again-2 : tie.Need-loop-again-2 Inv-loop μ-loop
 loop-again-2 c =
     let image = c .before .before .before .before .before .before .before .args .image .now in
     let at = c .before .before .before .before .loop .cursor .at in
-    let skipped = item-skipped image at _ (sym (c .before .before .before .item-at .ensures) ∙ c .before .next .given .1) in
+    let skipped = item-skipped image at _ (sym (c .before .before .before .read .ensures) ∙ c .before .next .given .1) in
     c .before .before .before .before .loop .inv ∙ spot-skip image (c .before .before .before .before .before .before .before .args .path .now) at _ skipped
 
 enum-told : tie.Need-enum-told Inv-loop μ-loop
 enum-told c = search needs
 
 returns-2 : tie.Need-returns-2 Inv-loop μ-loop
-returns-2 c = sym (c .before .before .before .loop .inv ∙ spot-cut (c .before .before .before .before .before .before .args .image .now) (c .before .before .before .before .before .before .args .path .now) (c .before .before .before .loop .cursor .at) (sym (c .before .before .item-at .ensures) ∙ c .enum-told .given .1))
+returns-2 c = sym (c .before .before .before .loop .inv ∙ spot-cut (c .before .before .before .before .before .before .args .image .now) (c .before .before .before .before .before .before .args .path .now) (c .before .before .before .loop .cursor .at) (sym (c .before .before .read .ensures) ∙ c .enum-told .given .1))
 
 enum-told-2 : tie.Need-enum-told-2 Inv-loop μ-loop
 enum-told-2 c = search needs
 
 returns-3 : tie.Need-returns-3 Inv-loop μ-loop
-returns-3 c = sym (c .before .before .before .loop .inv ∙ spot-end (c .before .before .before .before .before .before .args .image .now) (c .before .before .before .before .before .before .args .path .now) (c .before .before .before .loop .cursor .at) (sym (c .before .before .item-at .ensures) ∙ c .enum-told2 .given .1))
+returns-3 c = sym (c .before .before .before .loop .inv ∙ spot-end (c .before .before .before .before .before .before .args .image .now) (c .before .before .before .before .before .before .args .path .now) (c .before .before .before .loop .cursor .at) (sym (c .before .before .read .ensures) ∙ c .enum-told2 .given .1))
 
 pub find-from-spec : {M : Type 1} → statement M
 find-from-spec =
@@ -100,7 +100,7 @@ find-from-spec =
     Inv-loop
     μ-loop
     loop-holds
-    item-at-requires
+    read-requires
     enum-known-start
     piece-requires
     same-requires

@@ -24,8 +24,8 @@ loop-holds : tie.Need-loop-holds Inv-loop μ-loop
 unfolding good
 loop-holds c = rw (c .new .ensures)
 
-item-at-requires : tie.Need-item-at-requires Inv-loop μ-loop
-item-at-requires c κs = search needs
+read-requires : tie.Need-read-requires Inv-loop μ-loop
+read-requires c κs = search needs
 
 enum-known-start : tie.Need-enum-known-start Inv-loop μ-loop
 enum-known-start c = search needs
@@ -37,14 +37,14 @@ returns : tie.Need-returns Inv-loop μ-loop
 returns c =
     let image = c .before .before .before .before .before .before .before .before .before .args .image .now in
     let at = c .before .before .before .before .before .before .loop .cursor .at in
-    let entry = item-entry image at _ _ _ _ (sym (c .before .before .before .before .before .item-at .ensures) ∙ c .before .before .before .start .given .1) in
+    let entry = item-entry image at _ _ _ _ (sym (c .before .before .before .before .before .read .ensures) ∙ c .before .before .before .start .given .1) in
     sym (c .before .before .before .before .before .before .loop .inv ∙ good-again image at _ _ _ _ entry (sym (c .before .again .ensures) ∙ c .if1 .taken))
 
 loop-less : tie.Need-loop-less Inv-loop μ-loop
 loop-less c =
     let image = c .before .before .before .before .before .before .before .before .before .args .image .now in
     let at = c .before .before .before .before .before .before .loop .cursor .at in
-    let entry = item-entry image at _ _ _ _ (sym (c .before .before .before .before .before .item-at .ensures) ∙ c .before .before .before .start .given .1) in
+    let entry = item-entry image at _ _ _ _ (sym (c .before .before .before .before .before .read .ensures) ∙ c .before .before .before .start .given .1) in
     let inside = entry .inside in
     let later = entry .later in
     omega arith
@@ -53,7 +53,7 @@ loop-again : tie.Need-loop-again Inv-loop μ-loop
 loop-again c =
     let image = c .before .before .before .before .before .before .before .before .before .args .image .now in
     let at = c .before .before .before .before .before .before .loop .cursor .at in
-    let entry = item-entry image at _ _ _ _ (sym (c .before .before .before .before .before .item-at .ensures) ∙ c .before .before .before .start .given .1) in
+    let entry = item-entry image at _ _ _ _ (sym (c .before .before .before .before .before .read .ensures) ∙ c .before .before .before .start .given .1) in
     c .before .before .before .before .before .before .loop .inv ∙ good-on image at _ _ _ _ entry (sym (c .before .again .ensures) ∙ c .if1 .left)
 
 enum-told : tie.Need-enum-told Inv-loop μ-loop
@@ -63,20 +63,20 @@ returns-2 : tie.Need-returns-2 Inv-loop μ-loop
 returns-2 c =
     let image = c .before .before .before .before .before .before .args .image .now in
     let at = c .before .before .before .loop .cursor .at in
-    let skipped = item-skipped image at _ (sym (c .before .before .item-at .ensures) ∙ c .enum-told .given .1) in
+    let skipped = item-skipped image at _ (sym (c .before .before .read .ensures) ∙ c .enum-told .given .1) in
     sym (c .before .before .before .loop .inv ∙ good-skip image at _ skipped)
 
 enum-told-2 : tie.Need-enum-told-2 Inv-loop μ-loop
 enum-told-2 c = search needs
 
 returns-3 : tie.Need-returns-3 Inv-loop μ-loop
-returns-3 c = sym (c .before .before .before .loop .inv ∙ good-cut (c .before .before .before .before .before .before .args .image .now) (c .before .before .before .loop .cursor .at) (sym (c .before .before .item-at .ensures) ∙ c .enum-told2 .given .1))
+returns-3 c = sym (c .before .before .before .loop .inv ∙ good-cut (c .before .before .before .before .before .before .args .image .now) (c .before .before .before .loop .cursor .at) (sym (c .before .before .read .ensures) ∙ c .enum-told2 .given .1))
 
 enum-told-3 : tie.Need-enum-told-3 Inv-loop μ-loop
 enum-told-3 c = search needs
 
 returns-4 : tie.Need-returns-4 Inv-loop μ-loop
-returns-4 c = sym (c .before .before .before .loop .inv ∙ good-end (c .before .before .before .before .before .before .args .image .now) (c .before .before .before .loop .cursor .at) (sym (c .before .before .item-at .ensures) ∙ c .enum-told3 .given .1))
+returns-4 c = sym (c .before .before .before .loop .inv ∙ good-end (c .before .before .before .before .before .before .args .image .now) (c .before .before .before .loop .cursor .at) (sym (c .before .before .read .ensures) ∙ c .enum-told3 .given .1))
 
 pub good-spec : {M : Type 1} → statement M
 good-spec =
@@ -86,7 +86,7 @@ good-spec =
     μ-loop
     new-requires
     loop-holds
-    item-at-requires
+    read-requires
     enum-known-start
     again-requires
     returns

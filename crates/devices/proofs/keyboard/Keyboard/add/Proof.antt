@@ -1,6 +1,5 @@
--- `devices::keyboard::Keyboard::add` meets its contract: a key stored at the count is a key behind the others. Assumes nothing.
-use borrow.Author.Tests.{lt-ltb, le-ltb}
-use Rattle.octets.specs.WriteLaws.{writeAt-one}
+-- `devices::keyboard::Keyboard::add` meets its contract: a full queue drops the key, and one with room is handed to `stored`. Assumes nothing.
+use borrow.Author.Tests.{le-ltb}
 use Rattle.devices.specs.Queue.{queueAdd}
 use borrow.Author.Needs.{needs}
 use Rattle.devices.proofs.keyboard.Keyboard.add.Statement.{statement}
@@ -10,15 +9,11 @@ returns : tie.Need-returns
 unfolding queueAdd
 returns c = rw (le-ltb _ _ (c .if1 .taken))
 
-element-write-self : tie.Need-element-write-self
-element-write-self c = search needs
-
-add-self : tie.Need-add-self
-add-self c = search needs
+stored-requires : tie.Need-stored-requires
+stored-requires c κs = search needs
 
 returns-2 : tie.Need-returns-2
-unfolding queueAdd
-returns-2 c = rw (lt-ltb _ _ (c .if1 .left), writeAt-one)
+returns-2 c = search needs
 
 pub add-spec : {M : Type 1} → statement M
-add-spec = tie.close (tie.spec returns element-write-self add-self returns-2)
+add-spec = tie.close (tie.spec returns stored-requires returns-2)

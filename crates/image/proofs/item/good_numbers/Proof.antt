@@ -1,8 +1,8 @@
--- `image::good_numbers` meets its contract: its tests are the definition's. Assumes nothing.
+-- `image::item::good_numbers` meets its contract: its tests are the definition's. Assumes nothing.
 use mathlib.Core.Path.{refl}
 use Rattle.image.specs.Files.{goodNumbers}
-use Rattle.image.proofs.good_numbers.Statement.{statement}
-use Rattle.image.proofs.good_numbers.Tie as tie
+use Rattle.image.proofs.item.good_numbers.Statement.{statement}
+use Rattle.image.proofs.item.good_numbers.Tie as tie
 
 returns : tie.Need-returns
 unfolding goodNumbers

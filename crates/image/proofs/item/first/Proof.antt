@@ -1,11 +1,11 @@
--- `image::first` meets its contract: a part that is not empty begins with the byte at its place. Assumes nothing.
+-- `image::item::first` meets its contract: a part that is not empty begins with the byte at its place. Assumes nothing.
 use native.Mathlib.Nat.{add-zero}
 use native.Mathlib.Omega.{arith}
 use Rattle.octets.specs.Lists.{part}
 use Rattle.octets.specs.PartLaws.{part-out, getD-part}
 use borrow.Author.Needs.{needs}
-use Rattle.image.proofs.first.Statement.{statement}
-use Rattle.image.proofs.first.Tie as tie
+use Rattle.image.proofs.item.first.Statement.{statement}
+use Rattle.image.proofs.item.first.Tie as tie
 
 returns : tie.Need-returns
 unfolding part

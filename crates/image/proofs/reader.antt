@@ -1,0 +1,3 @@
+-- Laws that the walks by hand of these functions share.
+mod Owned
+mod Walks
