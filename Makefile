@@ -39,7 +39,7 @@ fuzz: rt-is-there
 	@rt check replay
 	@cargo build --release --offline --quiet --manifest-path tests/model/Cargo.toml --target-dir target/model
 	@cd target && model/release/fuzz bin/replay $(N) $(SEED)
-	@tools/replay-load target/bin/replay large
+	@target/model/release/load target/bin/replay large
 
 fuzz-listing: rt-is-there
 	@command -v python3 >/dev/null || { echo 'make: python3 is not on the PATH, and the second reader needs it'; exit 1; }

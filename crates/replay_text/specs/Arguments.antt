@@ -31,7 +31,7 @@ withNumber v a = cond (leb 6 (a .count)) a (record { good = a .good; count = a .
 unfoldable pub withHeld : ℕ → Arguments → Arguments
 withHeld n a = record { good = a .good; count = a .count; numbers = a .numbers; held = n }
 
--- l "LENGTH is the length of the lent buffer, at most 4,096", a "length of the lent area, at most 65,536", n any number
+-- l "LENGTH says how many bytes long the buffer is that the call is lent: 4,096 or fewer", a "N bytes are lent, 65,536 at most", n any number
 unfoldable pub limit : ℕ → ℕ
 limit kind = cond (eqb kind 108) 4096 (cond (eqb kind 97) 65536 4294967295)
 
@@ -43,7 +43,7 @@ ofNumber most number.Bad a = refused a
 unfoldable pub choice : List ℕ → List ℕ → List ℕ → Arguments → Arguments
 choice first second w a = cond (sameBytes w first) (withNumber 1 a) (cond (sameBytes w second) (withNumber 0 a) (refused a))
 
--- "BYTE is exactly two of them"
+-- "BYTE is one byte, two digits"
 unfoldable pub ofByte : Size → ℕ → Arguments → Arguments
 ofByte (size.Is n) b a = cond (eqb n 1) (withNumber b a) (refused a)
 ofByte size.Bad b a = refused a
@@ -56,7 +56,7 @@ pub record Read : Type 0 where
 unfoldable pub told : Arguments → List ℕ → Read
 told a given = record { arguments = a; given = given }
 
--- "BYTES in a call's line is the whole lent part, at most 4,096 bytes": laid behind those that are there, their number among the numbers
+-- "The BYTES of a call are all that it is lent, and no more than 4,096 of them": laid behind those that are there, their number among the numbers
 unfoldable pub laid : Size → List ℕ → Arguments → List ℕ → Read
 laid (size.Is n) w a given =
     cond (ltb 4096 n) (told (refused a) given)

@@ -15,7 +15,7 @@ number-zero : numberOf (48 ∷ []) ≡ number.Is 0
 unfolding gapFrom tokenPlace run decimalFrom numberFrom numberAt part whole numberOf
 number-zero = refl
 
--- "007": "leading zeros allowed"
+-- "007": "zeros in front included"
 number-zeros : numberOf (48 ∷ 48 ∷ 55 ∷ []) ≡ number.Is 7
 unfolding gapFrom tokenPlace run decimalFrom numberFrom numberAt part whole numberOf
 number-zeros = refl
@@ -30,7 +30,7 @@ number-above : numberOf (52 ∷ 50 ∷ 57 ∷ 52 ∷ 57 ∷ 54 ∷ 55 ∷ 50 ∷
 unfolding gapFrom tokenPlace run decimalFrom numberFrom numberAt part whole numberOf
 number-above = refl
 
--- "": "one or more decimal digits"
+-- "": "at least one of the digits 0 to 9"
 number-empty : numberOf [] ≡ number.Bad
 unfolding gapFrom tokenPlace run decimalFrom numberFrom numberAt part whole numberOf
 number-empty = refl
@@ -40,7 +40,7 @@ number-behind : numberOf (49 ∷ 32 ∷ []) ≡ number.Bad
 unfolding gapFrom tokenPlace run decimalFrom numberFrom numberAt part whole numberOf
 number-behind = refl
 
--- "-": "or `-` for none"
+-- "-": "or a single `-` where there is none"
 size-none : sizeOf (45 ∷ []) ≡ size.Is 0
 unfolding sameBytes allHex sizeOf
 size-none = refl
@@ -50,7 +50,7 @@ size-empty : sizeOf [] ≡ size.Bad
 unfolding sameBytes allHex sizeOf
 size-empty = refl
 
--- "0": "an even number of lower-case hex digits"
+-- "0": "two hex digits to each"
 size-odd : sizeOf (48 ∷ []) ≡ size.Bad
 unfolding sameBytes allHex sizeOf
 size-odd = refl
@@ -65,7 +65,7 @@ size-upper : sizeOf (48 ∷ 65 ∷ []) ≡ size.Bad
 unfolding sameBytes allHex sizeOf
 size-upper = refl
 
--- "a  b": "separated by one space", so that an empty word stands between two
+-- "a  b": "one space and nothing else", so that an empty word stands between two
 words-three : words (97 ∷ 32 ∷ 32 ∷ 98 ∷ []) ≡ (97 ∷ []) ∷ [] ∷ (98 ∷ []) ∷ []
 unfolding onto words
 words-three = refl

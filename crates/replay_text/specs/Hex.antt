@@ -8,7 +8,7 @@ use Rattle.octets.specs.Same.{sameBytes}
 use Rattle.replay_text.specs.declared.hex.Size.{Size}
 use Rattle.replay_text.specs.declared.hex.Size.the-variants.{Is, Bad}
 
--- "lower-case hex digits"
+-- "the hex digits 0 to 9 and a to f"
 abbrev pub isHex : ℕ → Bool
 isHex b = (leb 48 b && leb b 57) || (leb 97 b && leb b 102)
 
@@ -20,7 +20,7 @@ unfoldable pub allHex : List ℕ → Bool
 allHex [] = true
 allHex (b ∷ l) = isHex b && allHex l
 
--- "BYTES is an even number of lower-case hex digits, or `-` for none": how many bytes those are
+-- "BYTES is a row of bytes, two hex digits to each, or a single `-` where there is none": how many bytes those are
 unfoldable pub sizeOf : List ℕ → Size
 sizeOf w =
     cond (sameBytes w (45 ∷ [])) (Is 0)
@@ -40,7 +40,7 @@ unfoldable pub hexOf : List ℕ → List ℕ
 hexOf [] = []
 hexOf (b ∷ l) = hexDigit (b / 16) ∷ hexDigit (b % 16) ∷ hexOf l
 
--- bytes as they are printed: "`-` for none"
+-- bytes as they are printed: "a single `-` where there is none"
 unfoldable pub spelled : List ℕ → List ℕ
 spelled [] = 45 ∷ []
 spelled (b ∷ l) = hexOf (b ∷ l)

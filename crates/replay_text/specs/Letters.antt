@@ -7,7 +7,7 @@ use lib.ListN.{length, replicate}
 use Rattle.octets.specs.Lists.{over}
 use Rattle.replay_text.specs.declared.letters.Letters.{Letters}
 
--- "A active, P passive"
+-- "an A stands for an active partition and a P for a passive one"
 unfoldable pub allLetters : List ℕ → Bool
 allLetters [] = true
 allLetters (b ∷ l) = (eqb b 65 || eqb b 80) && allLetters l
@@ -17,7 +17,7 @@ unfoldable pub flags : List ℕ → List Bool
 flags [] = []
 flags (b ∷ l) = eqb b 65 ∷ flags l
 
--- "one letter or more"; "letters behind the ninth are read and dropped, so that a count of 9 can be tried"
+-- "at least one letter"; "From the tenth letter on letters are checked and then ignored, since nine are enough to try a count that start refuses"
 unfoldable pub lettersOf : List ℕ → Letters
 lettersOf w = record {
   good = ltb 0 (length w) && allLetters w;

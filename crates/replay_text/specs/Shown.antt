@@ -4,7 +4,7 @@ use mathlib.Core.List.{List, [], _∷_}
 use Prim.Native.Nat.{ℕ}
 use lib.Dec.{leb}
 
--- "bytes outside 32 to 126 shown as '.'"
+-- "a dot stands for each byte below 32 or above 126"
 unfoldable pub shownByte : ℕ → ℕ
 shownByte b = cond (leb 32 b && leb b 126) b 46
 

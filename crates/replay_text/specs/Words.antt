@@ -16,7 +16,7 @@ unfoldable pub onto : ℕ → List (List ℕ) → List (List ℕ)
 onto b [] = (b ∷ []) ∷ []
 onto b (w ∷ ws) = (b ∷ w) ∷ ws
 
--- "Words are separated by one space": between two spaces stands an empty word
+-- "Between two words stands one space and nothing else": between two spaces stands an empty word
 unfoldable pub words : List ℕ → List (List ℕ)
 words [] = [] ∷ []
 words (b ∷ l) = cond (eqb b 32) ([] ∷ words l) (onto b (words l))
@@ -26,6 +26,6 @@ unfoldable pub whole : ℕ → Token.Number → Number
 whole n (token.Is value next) = cond (eqb next n) (Is value) Bad
 whole n token.Bad = Bad
 
--- "A number is one or more decimal digits, leading zeros allowed, at most 4,294,967,295": a set-up text's number that fills the word
+-- "A number is at least one of the digits 0 to 9, zeros in front included, and is no greater than 4,294,967,295": a set-up text's number that fills the word
 unfoldable pub numberOf : List ℕ → Number
 numberOf w = cond (eqb (tokenPlace w 0) 0) (whole (length w) (numberAt w 0)) Bad
