@@ -1,6 +1,6 @@
 // `show` and `screen`: what the running terminal and its areas are now.
 use super::say;
-use super::session::Session;
+use super::session::Run;
 use lines::numbers::put;
 use octets::parts;
 use replay_text::arguments::Arguments;
@@ -152,7 +152,8 @@ fn put_digests(
 
 // `show`
 pub fn show(
-    session: Session,
+    terminal: Terminal,
+    run: Run,
     read: Arguments,
     store: &[u8],
     arena: &[u8],
@@ -160,13 +161,13 @@ pub fn show(
     screens: &[u8],
     permissions: [[u8; 8]; 32],
     out: &mut [u8],
-) -> Session {
+) -> Run {
     if !read.good {
-        return say::bad(session, out);
+        return say::bad(run, out);
     }
-    let a = put_terminal(out, session.said, session.accepted, session.terminal);
+    let a = put_terminal(out, run.said, run.accepted, terminal);
     let b = put_digests(out, a, store, arena, tables, screens, permissions);
-    session.with_said(b)
+    run.with_said(b)
 }
 
 // The row of 80 cells from place `from` on.
@@ -193,15 +194,21 @@ fn cells_of(screens: &[u8], p: u32) -> &[u8] {
 }
 
 // `screen P`
-pub fn screen(session: Session, read: Arguments, screens: &[u8], out: &mut [u8]) -> Session {
+pub fn screen(
+    terminal: Terminal,
+    run: Run,
+    read: Arguments,
+    screens: &[u8],
+    out: &mut [u8],
+) -> Run {
     if !read.good {
-        return say::bad(session, out);
+        return say::bad(run, out);
     }
     let n = read.numbers;
-    let plan = session.terminal.plan;
+    let plan = terminal.plan;
     let cells = cells_of(screens, n[0]);
     if plan.is_active(n[0] as usize) & (cells.len() == 2000) {
-        return session.with_said(put_rows(out, session.said, cells));
+        return run.with_said(put_rows(out, run.said, cells));
     }
-    session.with_said(put(out, session.said, b"screen -\n"))
+    run.with_said(put(out, run.said, b"screen -\n"))
 }

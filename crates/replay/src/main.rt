@@ -6,16 +6,19 @@ use libc::STDOUT_FILENO;
 use octets::parts;
 use octets::search;
 use replay_text::words;
+use session::Run;
 use session::Session;
+use terminal::Terminal;
 
 mod account_lines;
+mod calls;
 mod device_lines;
 mod look_lines;
 mod memory_lines;
-mod run;
 mod say;
 mod session;
 mod setting_lines;
+mod settings;
 mod start_line;
 mod stop_lines;
 
@@ -25,29 +28,75 @@ const LONGEST: usize = 131200;
 // What waits is written out once there is more than this: no answer to one line is as long as the rest of the row.
 const PLENTY: usize = 49152;
 
+// A bad line: the terminal stays as it is.
+fn kept(terminal: Terminal, run: Run, out: &mut [u8]) -> Session {
+    let said = say::bad(run, out);
+    Session {
+        terminal,
+        run: said,
+    }
+}
+
 // Writes out what waits.
-fn flushed(session: Session, out: &[u8]) -> Session {
-    io::write_all(STDOUT_FILENO, parts::piece(out, 0, session.said));
-    session.with_said(0)
+fn flushed(run: Run, out: &[u8]) -> Run {
+    io::write_all(STDOUT_FILENO, parts::piece(out, 0, run.said));
+    run.with_said(0)
 }
 
 // Writes out what waits where that is much.
-fn spared(session: Session, out: &[u8]) -> Session {
-    if PLENTY < session.said {
-        return flushed(session, out);
+fn spared(run: Run, out: &[u8]) -> Run {
+    if PLENTY < run.said {
+        return flushed(run, out);
     }
-    session
+    run
+}
+
+// Where nothing is left of the input that was read, writes out what waits and reads on; `end` is 0 at the input's end.
+fn refilled(run: Run, input: &mut [u8], out: &[u8]) -> Run {
+    if run.at < run.end {
+        return run;
+    }
+    let next = flushed(run, out);
+    let got = libc::read(STDIN_FILENO, input);
+    next.with_input(0, io::count(got, input))
 }
 
 // Gathers what there is of a line.
-fn gathered(session: Session, part: &[u8], line: &mut [u8]) -> Session {
-    parts::lay(part, line, session.held);
-    session.with_held(parts::sum(session.held, part.len(), usize::MAX))
+fn gathered(run: Run, part: &[u8], line: &mut [u8]) -> Run {
+    parts::lay(part, line, run.held);
+    run.with_held(parts::sum(run.held, part.len(), usize::MAX))
 }
 
-// Carries out the line where it is complete. An empty one and one that begins with '#' is passed over.
-fn ended(
-    session: Session,
+// Takes what there is of a line out of the input that was read; `whole` says whether the line is complete with it.
+fn taken(run: Run, input: &[u8], line: &mut [u8]) -> Run {
+    let rest = parts::piece(parts::piece(input, 0, run.end), run.at, run.end);
+    let length = words::before(10, rest, 0);
+    let behind = parts::sum(parts::sum(run.at, length, usize::MAX), 1, usize::MAX);
+    let next = run.with_input(behind, run.end)
+        .with_whole(length < rest.len());
+    gathered(next, parts::piece(rest, 0, length), line)
+}
+
+// Counts the line where it is complete, and says whether it has to be carried out: an empty one and one that begins with '#' is passed over.
+fn counted(run: Run, line: &[u8], out: &mut [u8]) -> Run {
+    if !run.whole {
+        return run.with_known(true);
+    }
+    let next = run.with_line().with_known(true);
+    let comment = search::same(parts::piece(line, 0, parts::least(next.length, 1)), b"#");
+    if comment | (next.length == 0) {
+        return next;
+    }
+    if LONGEST < next.length {
+        return say::bad(next, out);
+    }
+    next.with_known(false)
+}
+
+// Carries out the line where it has to be: first as one that says what the next start is given, then, if it is none, as one that speaks to the terminal.
+fn carried(
+    terminal: Terminal,
+    run: Run,
     line: &[u8],
     text: &mut [u8],
     store: &mut [u8],
@@ -59,21 +108,17 @@ fn ended(
     given: &mut [u8],
     out: &mut [u8],
 ) -> Session {
-    if !session.whole {
-        return session;
+    if run.known {
+        return Session { terminal, run };
     }
-    let held = session.held;
-    let next = session.with_line();
-    let whole = parts::piece(line, 0, held);
-    let comment = search::same(parts::piece(whole, 0, 1), b"#");
-    if comment | (held == 0) {
-        return next;
+    let whole = parts::piece(line, 0, run.length);
+    let set = settings::line(run, whole, text, store, arena, tables, screens, given, out);
+    if set.known {
+        return Session { terminal, run: set };
     }
-    if LONGEST < held {
-        return say::bad(next, out);
-    }
-    run::line(
-        next,
+    calls::line(
+        terminal,
+        set,
         whole,
         text,
         store,
@@ -84,31 +129,6 @@ fn ended(
         lent,
         given,
         out,
-    )
-}
-
-// Where nothing is left of the input that was read, writes out what waits and reads on; `end` is 0 at the input's end.
-fn refilled(session: Session, input: &mut [u8], out: &[u8]) -> Session {
-    if session.at < session.end {
-        return session;
-    }
-    let next = flushed(session, out);
-    let got = libc::read(STDIN_FILENO, input);
-    next.with_input(0, io::count(got, input))
-}
-
-// Takes what there is of a line out of the input that was read; `whole` says whether the line is complete with it.
-fn taken(session: Session, input: &[u8], line: &mut [u8]) -> Session {
-    let rest = parts::piece(parts::piece(input, 0, session.end), session.at, session.end);
-    let length = words::before(10, rest, 0);
-    let next = session.with_input(
-        parts::sum(parts::sum(session.at, length, usize::MAX), 1, usize::MAX),
-        session.end,
-    );
-    gathered(
-        next.with_whole(length < rest.len()),
-        parts::piece(rest, 0, length),
-        line,
     )
 }
 
@@ -125,13 +145,16 @@ fn main() {
     let mut lent = [0u8; 4096];
     let mut given = [0u8; 8192];
     let mut out = [0u8; 65536];
-    let mut session = refilled(Session::new(), &mut input, &out);
+    let mut terminal = Terminal::new();
+    let mut run = refilled(Run::new(), &mut input, &out);
     let mut turns = u64::MAX;
-    while (0 < turns) & (0 < session.end) {
+    while (0 < turns) & (0 < run.end) {
         turns -= 1;
-        let more = taken(session, &input, &mut line);
-        let answered = ended(
-            more,
+        let more = taken(run, &input, &mut line);
+        let next = counted(more, &line, &mut out);
+        let session = carried(
+            terminal,
+            next,
             &line,
             &mut text,
             &mut store,
@@ -143,12 +166,14 @@ fn main() {
             &mut given,
             &mut out,
         );
-        let emptied = spared(answered, &out);
-        let next = refilled(emptied, &mut input, &out);
-        session = next;
+        terminal = session.terminal;
+        let spare = spared(session.run, &out);
+        run = refilled(spare, &mut input, &out);
     }
-    let last = ended(
-        session.with_whole(true),
+    let last = counted(run.with_whole(true), &line, &mut out);
+    let session = carried(
+        terminal,
+        last,
         &line,
         &mut text,
         &mut store,
@@ -160,5 +185,5 @@ fn main() {
         &mut given,
         &mut out,
     );
-    flushed(last, &out);
+    flushed(session.run, &out);
 }

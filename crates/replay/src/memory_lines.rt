@@ -1,12 +1,16 @@
 // The calls on segments, and the configuration. What is lent is as long as the line says.
+use super::kept;
 use super::say;
+use super::session::Run;
 use super::session::Session;
 use octets::parts;
 use replay_text::arguments::Arguments;
+use terminal::Terminal;
 
 // `load P SELECTOR OFFSET LENGTH`
 pub fn load(
-    session: Session,
+    terminal: Terminal,
+    run: Run,
     read: Arguments,
     permissions: [[u8; 8]; 32],
     arena: &[u8],
@@ -14,20 +18,23 @@ pub fn load(
     out: &mut [u8],
 ) -> Session {
     if !read.good {
-        return say::bad(session, out);
+        return kept(terminal, run, out);
     }
     let n = read.numbers;
     parts::fill(lent, 0, lent.len(), 165);
-    let answer = session
-        .terminal
-        .load(permissions, n[0], n[1], n[2], arena, lent);
-    let next = session.with_terminal(answer.terminal);
-    say::buffer(next, out, b"load ", answer.number, lent)
+    let answer = terminal.load(permissions, n[0], n[1], n[2], arena, lent);
+    let next = answer.terminal;
+    let said = say::buffer(run, out, b"load ", answer.number, lent);
+    Session {
+        terminal: next,
+        run: said,
+    }
 }
 
 // `store P SELECTOR OFFSET BYTES`
 pub fn store(
-    session: Session,
+    terminal: Terminal,
+    run: Run,
     read: Arguments,
     given: &[u8],
     permissions: [[u8; 8]; 32],
@@ -35,20 +42,23 @@ pub fn store(
     out: &mut [u8],
 ) -> Session {
     if !read.good {
-        return say::bad(session, out);
+        return kept(terminal, run, out);
     }
     let n = read.numbers;
     let bytes = parts::piece(given, 0, read.held);
-    let answer = session
-        .terminal
-        .store(permissions, n[0], n[1], n[2], bytes, arena);
-    let next = session.with_terminal(answer.terminal);
-    say::number(next, out, b"store ", answer.number)
+    let answer = terminal.store(permissions, n[0], n[1], n[2], bytes, arena);
+    let next = answer.terminal;
+    let said = say::number(run, out, b"store ", answer.number);
+    Session {
+        terminal: next,
+        run: said,
+    }
 }
 
 // `flush P SELECTOR TAKEN`
 pub fn flush(
-    session: Session,
+    terminal: Terminal,
+    run: Run,
     read: Arguments,
     permissions: [[u8; 8]; 32],
     arena: &[u8],
@@ -56,19 +66,22 @@ pub fn flush(
     out: &mut [u8],
 ) -> Session {
     if !read.good {
-        return say::bad(session, out);
+        return kept(terminal, run, out);
     }
     let n = read.numbers;
-    let answer = session
-        .terminal
-        .flush(permissions, n[0], n[1], n[2], arena, store);
-    let next = session.with_terminal(answer.terminal);
-    say::number(next, out, b"flush ", answer.number)
+    let answer = terminal.flush(permissions, n[0], n[1], n[2], arena, store);
+    let next = answer.terminal;
+    let said = say::number(run, out, b"flush ", answer.number);
+    Session {
+        terminal: next,
+        run: said,
+    }
 }
 
 // `configuration P LENGTH`
 pub fn configuration(
-    session: Session,
+    terminal: Terminal,
+    run: Run,
     read: Arguments,
     permissions: [[u8; 8]; 32],
     store: &[u8],
@@ -76,13 +89,15 @@ pub fn configuration(
     out: &mut [u8],
 ) -> Session {
     if !read.good {
-        return say::bad(session, out);
+        return kept(terminal, run, out);
     }
     let n = read.numbers;
     parts::fill(lent, 0, lent.len(), 165);
-    let answer = session
-        .terminal
-        .configuration(permissions, n[0], store, lent);
-    let next = session.with_terminal(answer.terminal);
-    say::buffer(next, out, b"configuration ", answer.number, lent)
+    let answer = terminal.configuration(permissions, n[0], store, lent);
+    let next = answer.terminal;
+    let said = say::buffer(run, out, b"configuration ", answer.number, lent);
+    Session {
+        terminal: next,
+        run: said,
+    }
 }

@@ -1,4 +1,4 @@
-// What a run holds besides its areas.
+// What a run holds besides its areas. The terminal stands apart from the rest, which is small and changes with every line.
 use octets::parts;
 use replay_text::letters::Letters;
 use terminal::Terminal;
@@ -12,10 +12,9 @@ pub struct Lengths {
     pub screens: usize,
 }
 
-// The running terminal and what the next start is given; `line` counts the lines, `held` the bytes of the line that is being read and `whole` whether it is complete, `said` the
-// bytes of output that wait; what is left of the input that was read stands from `at` to `end`.
-pub struct Session {
-    pub terminal: Terminal,
+// What the next start is given, and whether one was accepted; `line` counts the lines, `held` the bytes of the line that is being read, `length` those of the last
+// one and `whole` whether it is complete, `known` whether it has been carried out, `said` the bytes of output that wait; what is left of the input that was read stands from `at` to `end`.
+pub struct Run {
     pub accepted: bool,
     pub count: u32,
     pub active: [bool; 8],
@@ -23,13 +22,22 @@ pub struct Session {
     pub lengths: Lengths,
     pub line: usize,
     pub held: usize,
+    pub length: usize,
     pub whole: bool,
+    pub known: bool,
     pub said: usize,
     pub at: usize,
     pub end: usize,
 }
 
-impl Session {
+// What a line leaves.
+pub struct Session {
+    pub terminal: Terminal,
+    pub run: Run,
+}
+
+impl Run {
+    // One active partition, no soft power, and the areas' usual lengths.
     pub fn new() -> Self {
         let lengths = Lengths {
             text: 0,
@@ -39,9 +47,7 @@ impl Session {
             screens: 16000,
         };
         let active = [true, false, false, false, false, false, false, false];
-        let terminal = Terminal::new();
-        Session {
-            terminal,
+        Run {
             accepted: false,
             count: 1,
             active,
@@ -49,16 +55,13 @@ impl Session {
             lengths,
             line: 0,
             held: 0,
+            length: 0,
             whole: false,
+            known: false,
             said: 0,
             at: 0,
             end: 0,
         }
-    }
-
-    pub fn with_terminal(mut self, terminal: Terminal) -> Self {
-        self.terminal = terminal;
-        self
     }
 
     pub fn with_said(mut self, said: usize) -> Self {
@@ -68,13 +71,6 @@ impl Session {
 
     pub fn with_lengths(mut self, lengths: Lengths) -> Self {
         self.lengths = lengths;
-        self
-    }
-
-    pub fn with_partitions(mut self, letters: Letters) -> Self {
-        let active = letters.active;
-        self.count = letters.count;
-        self.active = active;
         self
     }
 
@@ -88,10 +84,25 @@ impl Session {
         self
     }
 
-    // One line more has been read; nothing is held of the next.
-    pub fn with_line(mut self) -> Self {
-        self.line = parts::sum(self.line, 1, usize::MAX);
-        self.held = 0;
+    pub fn with_whole(mut self, whole: bool) -> Self {
+        self.whole = whole;
+        self
+    }
+
+    pub fn with_known(mut self, known: bool) -> Self {
+        self.known = known;
+        self
+    }
+
+    pub fn with_held(mut self, held: usize) -> Self {
+        self.held = held;
+        self
+    }
+
+    pub fn with_partitions(mut self, letters: Letters) -> Self {
+        let active = letters.active;
+        self.count = letters.count;
+        self.active = active;
         self
     }
 
@@ -101,13 +112,11 @@ impl Session {
         self
     }
 
-    pub fn with_whole(mut self, whole: bool) -> Self {
-        self.whole = whole;
-        self
-    }
-
-    pub fn with_held(mut self, held: usize) -> Self {
-        self.held = held;
+    // One line more has been read; nothing is held of the next.
+    pub fn with_line(mut self) -> Self {
+        self.line = parts::sum(self.line, 1, usize::MAX);
+        self.length = self.held;
+        self.held = 0;
         self
     }
 }

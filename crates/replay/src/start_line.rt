@@ -1,28 +1,34 @@
 // `start`
+use super::kept;
 use super::say;
+use super::session::Run;
 use super::session::Session;
 use replay_text::arguments::Arguments;
 use terminal::Started;
+use terminal::Terminal;
 
 // `start NUMBER line LINE`
-fn said(session: Session, started: Started, out: &mut [u8]) -> Session {
-    let accepted = session.accepted | (started.number == 0);
-    let next = session
-        .with_terminal(started.terminal)
-        .with_accepted(accepted);
-    say::two(
-        next,
+fn said(run: Run, started: Started, out: &mut [u8]) -> Session {
+    let accepted = run.accepted | (started.number == 0);
+    let next = say::two(
+        run.with_accepted(accepted),
         out,
         b"start ",
         started.number,
         b" line ",
         started.line,
-    )
+    );
+    let terminal = started.terminal;
+    Session {
+        terminal,
+        run: next,
+    }
 }
 
 // Starts the terminal with what the lines before have given.
 pub fn start(
-    session: Session,
+    terminal: Terminal,
+    run: Run,
     read: Arguments,
     text: &[u8],
     store: &[u8],
@@ -33,13 +39,13 @@ pub fn start(
     out: &mut [u8],
 ) -> Session {
     if !read.good {
-        return say::bad(session, out);
+        return kept(terminal, run, out);
     }
-    let active = session.active;
-    let started = session.terminal.start(
-        session.count,
+    let active = run.active;
+    let started = terminal.start(
+        run.count,
         active,
-        session.soft,
+        run.soft,
         text,
         store,
         arena,
@@ -47,5 +53,5 @@ pub fn start(
         screens,
         permissions,
     );
-    said(session, started, out)
+    said(run, started, out)
 }
