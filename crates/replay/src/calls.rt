@@ -319,11 +319,11 @@ fn device_calls(
     )
 }
 
-// The lines that speak to the terminal: each area is lent as long as it is said to be now.
+// Carries out a line that speaks to the terminal, unless the line is done. Each area is lent as long as it is said to be now.
 pub fn line(
     terminal: Terminal,
     run: Run,
-    line: &[u8],
+    gathered: &[u8],
     text: &[u8],
     store: &mut [u8],
     arena: &mut [u8],
@@ -334,6 +334,10 @@ pub fn line(
     given: &mut [u8],
     out: &mut [u8],
 ) -> Session {
+    if run.known {
+        return Session { terminal, run };
+    }
+    let line = parts::piece(gathered, 0, run.length);
     let verb = parts::piece(line, 0, words::before(32, line, 0));
     let lengths = run.lengths;
     let b = parts::least(lengths.store, store.len());

@@ -93,45 +93,6 @@ fn counted(run: Run, line: &[u8], out: &mut [u8]) -> Run {
     next.with_known(false)
 }
 
-// Carries out the line where it has to be: first as one that says what the next start is given, then, if it is none, as one that speaks to the terminal.
-fn carried(
-    terminal: Terminal,
-    run: Run,
-    line: &[u8],
-    text: &mut [u8],
-    store: &mut [u8],
-    arena: &mut [u8],
-    tables: &mut [u8],
-    screens: &mut [u8],
-    permissions: &mut [[u8; 8]; 32],
-    lent: &mut [u8],
-    given: &mut [u8],
-    out: &mut [u8],
-) -> Session {
-    if run.known {
-        return Session { terminal, run };
-    }
-    let whole = parts::piece(line, 0, run.length);
-    let set = settings::line(run, whole, text, store, arena, tables, screens, given, out);
-    if set.known {
-        return Session { terminal, run: set };
-    }
-    calls::line(
-        terminal,
-        set,
-        whole,
-        text,
-        store,
-        arena,
-        tables,
-        screens,
-        permissions,
-        lent,
-        given,
-        out,
-    )
-}
-
 // A proved loop has to end, and nothing says that the input does: so the turns are counted down, from a number that no run uses up.
 fn main() {
     let mut input = [0u8; 65536];
@@ -152,11 +113,22 @@ fn main() {
         turns -= 1;
         let more = taken(run, &input, &mut line);
         let next = counted(more, &line, &mut out);
-        let session = carried(
-            terminal,
+        let set = settings::line(
             next,
             &line,
             &mut text,
+            &mut store,
+            &mut arena,
+            &mut tables,
+            &mut screens,
+            &mut given,
+            &mut out,
+        );
+        let session = calls::line(
+            terminal,
+            set,
+            &line,
+            &text,
             &mut store,
             &mut arena,
             &mut tables,
@@ -171,11 +143,22 @@ fn main() {
         run = refilled(spare, &mut input, &out);
     }
     let last = counted(run.with_whole(true), &line, &mut out);
-    let session = carried(
-        terminal,
+    let set = settings::line(
         last,
         &line,
         &mut text,
+        &mut store,
+        &mut arena,
+        &mut tables,
+        &mut screens,
+        &mut given,
+        &mut out,
+    );
+    let session = calls::line(
+        terminal,
+        set,
+        &line,
+        &text,
         &mut store,
         &mut arena,
         &mut tables,

@@ -60,10 +60,10 @@ fn area_lines(
     input_lines(run, line, verb, text, store, given, out)
 }
 
-// Carries out a line that says what the next start is given. Where the line is none of these it does nothing, and `known` is false.
+// Carries out a line that says what the next start is given, unless the line is done. Where it is none of these nothing is done, and `known` is false.
 pub fn line(
     run: Run,
-    line: &[u8],
+    gathered: &[u8],
     text: &mut [u8],
     store: &mut [u8],
     arena: &mut [u8],
@@ -72,6 +72,10 @@ pub fn line(
     given: &mut [u8],
     out: &mut [u8],
 ) -> Run {
+    if run.known {
+        return run;
+    }
+    let line = parts::piece(gathered, 0, run.length);
     let verb = parts::piece(line, 0, words::before(32, line, 0));
     let known = run.with_known(true);
     if search::same(verb, b"partitions") {
