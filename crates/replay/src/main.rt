@@ -109,7 +109,7 @@ fn main() {
     let mut terminal = Terminal::new();
     let mut run = refilled(Run::new(), &mut input, &out);
     let mut turns = u64::MAX;
-    while (0 < turns) & (0 < run.end) {
+    while 0 < turns && 0 < run.end {
         turns -= 1;
         let more = taken(run, &input, &mut line);
         let next = counted(more, &line, &mut out);
