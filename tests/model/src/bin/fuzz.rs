@@ -61,7 +61,11 @@ fn job() -> Option<Job> {
         Some(word) => word.parse().ok()?,
         None => 0,
     };
-    Some(Job { program, texts, first_seed })
+    Some(Job {
+        program,
+        texts,
+        first_seed,
+    })
 }
 
 /// Takes seed after seed until all are done or a difference was found.
@@ -94,7 +98,11 @@ fn one_text(job: &Job, shared: &Shared, seed: u64) -> Result<(), String> {
     model::replay::run(&mut &text[..], &mut expected).map_err(|error| format!("model: {error}"))?;
     let mut tally = Tally::default();
     tally.add_text(&text, &expected);
-    shared.tally.lock().expect("no worker panicked").merge(tally);
+    shared
+        .tally
+        .lock()
+        .expect("no worker panicked")
+        .merge(tally);
     if job.program == "-" {
         return Ok(());
     }
@@ -115,41 +123,52 @@ fn first_difference(text: &[u8], expected: &[u8], got: &[u8]) -> String {
     let longest = model_lines.len().max(program_lines.len());
     let differs = |&place: &usize| model_lines.get(place) != program_lines.get(place);
     let Some(place) = (0..longest).find(differs) else {
-        return "the outputs are the same line by line".to_string();
+        return "the outputs agree line by line".to_string();
     };
     let ranges = answers(text, expected);
     let input = ranges.iter().position(|range| range.end > place);
     let where_from = match input {
-        Some(index) => format!("line {}: {}", index + 1, shown(lines(text).get(index))),
+        Some(index) => format!("line {}: {}", index + 1, shown(lines(text).get(index), 0)),
         None => "behind the last answer".to_string(),
     };
+    let (model_line, program_line) = (model_lines.get(place), program_lines.get(place));
+    let same = same_bytes(model_line, program_line);
     format!(
         "{where_from}\nmodel:   {}\nprogram: {}",
-        shown(model_lines.get(place)),
-        shown(program_lines.get(place))
+        shown(model_line, same),
+        shown(program_line, same)
     )
 }
 
-fn shown(line: Option<&&[u8]>) -> String {
-    match line {
-        Some(bytes) => {
-            let part = &bytes[..bytes.len().min(400)];
-            let more = if bytes.len() > 400 { " ..." } else { "" };
-            format!("{}{more}", String::from_utf8_lossy(part))
-        }
-        None => "(nothing)".to_string(),
+/// How many bytes the two lines begin with in common.
+fn same_bytes(one: Option<&&[u8]>, other: Option<&&[u8]>) -> usize {
+    match (one, other) {
+        (Some(one), Some(other)) => one.iter().zip(*other).take_while(|(a, b)| a == b).count(),
+        _ => 0,
     }
+}
+
+/// A line, or of a long one the part around the byte of interest.
+fn shown(line: Option<&&[u8]>, interest: usize) -> String {
+    let Some(bytes) = line else {
+        return "(nothing)".to_string();
+    };
+    let begin = if interest > 200 { interest - 100 } else { 0 };
+    let end = bytes.len().min(begin + 400);
+    let part = String::from_utf8_lossy(&bytes[begin.min(end)..end]);
+    let before = if begin > 0 {
+        format!("(from byte {begin}) ")
+    } else {
+        String::new()
+    };
+    let behind = if end < bytes.len() { " ..." } else { "" };
+    format!("{before}{part}{behind}")
 }
 
 /// Prints the table and says whether everything is as it must be.
 fn report(tally: &Tally, failed: bool, alone: bool) -> bool {
     println!("{}", tally.table());
-    println!("Cells that cannot arise:");
-    for (calls, numbers, reason) in NEVER {
-        let calls = if calls.len() == CALLS.len() - 1 { "every call".to_string() } else { calls.join(", ") };
-        let numbers: Vec<String> = numbers.iter().map(u16::to_string).collect();
-        println!("  {calls}: {}: {reason}", numbers.join(" "));
-    }
+    print_never();
     let (missing, wrong) = tally.faults();
     for cell in &wrong {
         println!("reached, though it cannot arise: {cell}");
@@ -158,13 +177,9 @@ fn report(tally: &Tally, failed: bool, alone: bool) -> bool {
     for cell in missing.iter().filter(|_| enough) {
         println!("not reached: {cell}");
     }
-    println!(
-        "{} texts, {} lines, {} calls, {} bad lines",
-        grouped(tally.texts),
-        grouped(tally.lines),
-        grouped(tally.calls),
-        grouped(tally.bad_lines)
-    );
+    let (texts, calls) = (grouped(tally.texts), grouped(tally.calls));
+    let (lines, bad_lines) = (grouped(tally.lines), grouped(tally.bad_lines));
+    println!("{texts} texts, {lines} lines, {calls} calls, {bad_lines} bad lines");
     let well = !failed && wrong.is_empty() && (missing.is_empty() || !enough);
     let verdict = match (failed, well, alone) {
         (true, _, _) => "a difference",
@@ -172,6 +187,18 @@ fn report(tally: &Tally, failed: bool, alone: bool) -> bool {
         (false, true, true) => "nothing compared",
         (false, true, false) => "no difference",
     };
-    println!("fuzz: {} texts, {} calls, {verdict}", grouped(tally.texts), grouped(tally.calls));
+    println!("fuzz: {texts} texts, {calls} calls, {verdict}");
     well
+}
+
+fn print_never() {
+    println!("Cells that cannot arise:");
+    for (calls, numbers, reason) in NEVER {
+        let names = match calls.len() == CALLS.len() - 1 {
+            true => "every call".to_string(),
+            false => calls.join(", "),
+        };
+        let numbers: Vec<String> = numbers.iter().map(u16::to_string).collect();
+        println!("  {names}: {}: {reason}", numbers.join(" "));
+    }
 }

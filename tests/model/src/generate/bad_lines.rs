@@ -27,17 +27,95 @@ const GOOD: [&str; 20] = [
     "configuration 0 2584",
 ];
 
+/// Lines that are wrong in a way of their own.
+const WRONG: &[&[u8]] = &[
+    b"key 4",
+    b"key 414",
+    b"key 4142",
+    b"key -",
+    b"key 4g",
+    b"key 4A",
+    b"partitions",
+    b"partitions ",
+    b"partitions AX",
+    b"partitions a",
+    b"partitions AAAAAAAAAAX",
+    b"partitions A A",
+    b"soft maybe",
+    b"soft",
+    b"arena",
+    b"arena -",
+    b"arena 65537",
+    b"tables 65537",
+    b"screens 4294967295",
+    b"screens 18446744073709551616",
+    b"text abc",
+    b"text AB",
+    b"text 0x41",
+    b"text",
+    b"image --",
+    b"image zz",
+    b"fault 0 1",
+    b"fault 0 1 on",
+    b"fault 0 1 set clear",
+    b"fault 0 keyboard set",
+    b"screen",
+    b"screen -",
+    b"screen 0 0",
+    b"who 0 033a",
+    b"who 0 +33",
+    b"logout",
+    b"logout 0 0",
+    b"powerdown",
+    b"shutdown 0",
+    b"shutdown 0 4",
+    b"login 0 6100",
+    b"login 0 6100 ",
+    b"login 0  6100",
+    b"flush 0 256",
+    b"read_next 0 1 0 1",
+    b"readnext 0 1 0 1 1",
+    b"write_next 0 2 0 1 4",
+    b"write_next 0 2 0 1",
+    b" ",
+    b"\r",
+    b"\t",
+    b"\x00",
+    b"\xff\xfe\x00",
+    b" # not a comment",
+    b"start start",
+    b"-",
+    b"0",
+];
+
 /// The longest line that is read at all; beyond it only comments are passed over.
 const LONGEST_LINE: usize = 131_200;
 
 impl Composer {
     pub fn bad_line(&mut self) {
         let line = match self.random.below(6) {
-            0 => fixed(&mut self.random),
+            0 => self.random.pick(WRONG).to_vec(),
             1 => over_a_limit(&mut self.random),
             _ => spoiled(&mut self.random),
         };
         self.script.line(&line);
+    }
+
+    /// Lines that look odd and are good: leading zeros, nothing to append, numbers for nobody.
+    pub fn odd_good_line(&mut self) {
+        let partition = self.active_partition();
+        let line = match self.random.below(9) {
+            0 => format!("who 00{partition} 0000000000000000000033"),
+            1 => format!("load 0{partition} 000256 00 01"),
+            2 => format!("screen 00000000000{partition}"),
+            3 => format!("read_random {partition} 02 0{partition} 01999 0000000000005 005"),
+            4 => format!("flush 0{partition} 0256 04294967295"),
+            5 => "text -".to_string(),
+            6 => "image -".to_string(),
+            7 => "screen 4294967295".to_string(),
+            _ => "fault 4294967295 4294967295 set".to_string(),
+        };
+        self.script.words(line);
     }
 
     /// A comment or an empty line: nothing is answered, and the lines are still counted.
@@ -49,9 +127,17 @@ impl Composer {
 
     /// Lines so long that a reader must not keep them, and the longest that it must.
     pub fn very_long_line(&mut self) {
-        let length = self.random.pick(&[LONGEST_LINE, LONGEST_LINE + 1, LONGEST_LINE + 2, 200_000]);
-        let first: &[u8] = self.random.pick(&[b"#", b"partitions A", b"x", b"key 4a ", b"image 00"]);
-        let rest: u8 = if first.starts_with(b"image") { b'0' } else { b'P' };
+        let length = self
+            .random
+            .pick(&[LONGEST_LINE, LONGEST_LINE + 1, LONGEST_LINE + 2, 200_000]);
+        let first: &[u8] =
+            self.random
+                .pick(&[b"#", b"partitions A", b"x", b"key 4a ", b"image 00"]);
+        let rest: u8 = if first.starts_with(b"image") {
+            b'0'
+        } else {
+            b'P'
+        };
         // `partitions` counts its first nine letters only, so the longest line of all is good.
         let mut line = first.to_vec();
         line.resize(length, rest);
@@ -101,70 +187,6 @@ fn without_last_word(line: &[u8]) -> Vec<u8> {
 
 fn with_last_word(line: &[u8], word: &[u8]) -> Vec<u8> {
     [&without_last_word(line)[..], b" ", word].concat()
-}
-
-/// Lines that are wrong in a way of their own.
-fn fixed(random: &mut Random) -> Vec<u8> {
-    let lines: &[&[u8]] = &[
-        b"key 4",
-        b"key 414",
-        b"key 4142",
-        b"key -",
-        b"key 4g",
-        b"key 4A",
-        b"partitions",
-        b"partitions ",
-        b"partitions AX",
-        b"partitions a",
-        b"partitions AAAAAAAAAAX",
-        b"partitions A A",
-        b"soft maybe",
-        b"soft",
-        b"arena",
-        b"arena -",
-        b"arena 65537",
-        b"tables 65537",
-        b"screens 4294967295",
-        b"screens 18446744073709551616",
-        b"text abc",
-        b"text AB",
-        b"text 0x41",
-        b"text",
-        b"image --",
-        b"image zz",
-        b"fault 0 1",
-        b"fault 0 1 on",
-        b"fault 0 1 set clear",
-        b"fault 0 keyboard set",
-        b"screen",
-        b"screen -",
-        b"screen 0 0",
-        b"who 0 033a",
-        b"who 0 +33",
-        b"logout",
-        b"logout 0 0",
-        b"powerdown",
-        b"shutdown 0",
-        b"shutdown 0 4",
-        b"login 0 6100",
-        b"login 0 6100 ",
-        b"login 0  6100",
-        b"flush 0 256",
-        b"read_next 0 1 0 1",
-        b"readnext 0 1 0 1 1",
-        b"write_next 0 2 0 1 4",
-        b"write_next 0 2 0 1",
-        b" ",
-        b"\r",
-        b"\t",
-        b"\x00",
-        b"\xff\xfe\x00",
-        b" # not a comment",
-        b"start start",
-        b"-",
-        b"0",
-    ];
-    random.pick(lines).to_vec()
 }
 
 /// Calls and set-up lines one step over a limit of the replay text.

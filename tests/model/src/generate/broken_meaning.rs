@@ -2,9 +2,7 @@
 
 use super::plan::{Permission, Plan, Segment};
 use super::random::Random;
-use super::statements::{
-    path_token, Statement, CODE_PATH, FIRST_PERMISSION, HOST, INDEX, SUBJECT,
-};
+use super::statements::{path_token, Statement, CODE_PATH, FIRST_PERMISSION, HOST, INDEX, SUBJECT};
 
 pub fn break_meaning(
     random: &mut Random,
@@ -18,7 +16,11 @@ pub fn break_meaning(
         407 => wrong_partition(random, plan, statements),
         408 => second_code(random, plan, statements),
         409 => repeated_path(random, plan, statements),
-        410 => replace_path(random, statements, &[b"/scos/x", b"/scos/pw0", b"/scos/", b"/scos//"]),
+        410 => replace_path(
+            random,
+            statements,
+            &[b"/scos/x", b"/scos/pw0", b"/scos/", b"/scos//"],
+        ),
         411 => missing_file(random, plan, statements),
         412 => wrong_size(random, plan, statements),
         413 => wrong_permissions(random, plan, statements),
@@ -28,11 +30,18 @@ pub fn break_meaning(
 
 fn open_segment(plan: &Plan) -> Segment {
     let permissions = vec![Permission::ReadWrite; plan.active.len()];
-    Segment { path: Vec::new(), size: 1, host: 0, permissions }
+    Segment {
+        path: Vec::new(),
+        size: 1,
+        host: 0,
+        permissions,
+    }
 }
 
 fn insert_dseg(statements: &mut Vec<Statement>, statement: Statement) {
-    let behind = statements.iter().rposition(|statement| !statement.is_mseg());
+    let behind = statements
+        .iter()
+        .rposition(|statement| !statement.is_mseg());
     statements.insert(behind.map_or(0, |place| place + 1), statement);
 }
 
@@ -52,7 +61,9 @@ fn one_too_many(random: &mut Random, plan: &Plan, statements: &mut Vec<Statement
 }
 
 fn segments(statements: &[Statement]) -> Vec<usize> {
-    (0..statements.len()).filter(|&place| !statements[place].is_code()).collect()
+    (0..statements.len())
+        .filter(|&place| !statements[place].is_code())
+        .collect()
 }
 
 /// An index that is not the next one; the first of a kind must be 0.
@@ -63,8 +74,18 @@ fn wrong_index(random: &mut Random, plan: &Plan, statements: &mut Vec<Statement>
         return statements.push(statement);
     }
     let place = random.pick(&places);
-    let right = place - statements.iter().position(|s| s.tokens[0] == statements[place].tokens[0]).unwrap_or(0);
-    let wrong = random.pick(&[right + 1, right + 2, right.wrapping_sub(1) & 15, 16, 4_294_967_295]);
+    let right = place
+        - statements
+            .iter()
+            .position(|s| s.tokens[0] == statements[place].tokens[0])
+            .unwrap_or(0);
+    let wrong = random.pick(&[
+        right + 1,
+        right + 2,
+        right.wrapping_sub(1) & 15,
+        16,
+        4_294_967_295,
+    ]);
     let wrong = if wrong == right { right + 1 } else { wrong };
     statements[place].tokens[INDEX] = format!("{wrong}").into_bytes();
 }
@@ -79,13 +100,19 @@ fn wrong_partition(random: &mut Random, plan: &Plan, statements: &mut Vec<Statem
             let statement = Statement::code(random, partition, &path);
             return statements.insert(0, statement);
         }
-        _ => random.pick(&[count, count, count + 1, 8, 9, 255, 256, 4_294_967_295]).max(count),
+        _ => random
+            .pick(&[count, count, count + 1, 8, 9, 255, 256, 4_294_967_295])
+            .max(count),
     };
     if statements.is_empty() {
         return;
     }
     let place = random.below(statements.len());
-    let token = if statements[place].is_code() { INDEX } else { HOST };
+    let token = if statements[place].is_code() {
+        INDEX
+    } else {
+        HOST
+    };
     statements[place].tokens[token] = format!("{number}").into_bytes();
 }
 
@@ -96,7 +123,10 @@ fn second_code(random: &mut Random, plan: &Plan, statements: &mut Vec<Statement>
         path = random.pick(&[&b"/scos/x"[..], b"/not there"]).to_vec();
     }
     let statement = Statement::code(random, partition, &path);
-    let behind = statements.iter().rposition(Statement::is_code).map_or(0, |place| place + 1);
+    let behind = statements
+        .iter()
+        .rposition(Statement::is_code)
+        .map_or(0, |place| place + 1);
     statements.insert(behind, statement);
 }
 
@@ -111,13 +141,18 @@ fn repeated_path(random: &mut Random, plan: &Plan, statements: &mut Vec<Statemen
 }
 
 fn replace_path(random: &mut Random, statements: &mut [Statement], paths: &[&[u8]]) {
-    let places: Vec<usize> =
-        (0..statements.len()).filter(|&place| !statements[place].is_mseg()).collect();
+    let places: Vec<usize> = (0..statements.len())
+        .filter(|&place| !statements[place].is_mseg())
+        .collect();
     if places.is_empty() {
         return;
     }
     let place = random.pick(&places);
-    let token = if statements[place].is_code() { CODE_PATH } else { SUBJECT };
+    let token = if statements[place].is_code() {
+        CODE_PATH
+    } else {
+        SUBJECT
+    };
     let path = random.pick(paths);
     statements[place].tokens[token] = path_token(random, path);
 }
@@ -128,7 +163,14 @@ fn missing_file(random: &mut Random, plan: &mut Plan, statements: &mut [Statemen
         let gone = plan.codes[random.below(plan.codes.len())].1.clone();
         return plan.files.retain(|file| file.path != gone);
     }
-    let paths: [&[u8]; 6] = [b"/scos", b"/scosx/pw0", b"/SCOS/pw0", b"/not there", b"//scos/pw0", b"/zz"];
+    let paths: [&[u8]; 6] = [
+        b"/scos2",
+        b"/scosy/pw0",
+        b"/Scos/pw0",
+        b"/not there",
+        b"//scos/pw0",
+        b"/zz",
+    ];
     replace_path(random, statements, &paths);
 }
 
@@ -154,8 +196,9 @@ fn wrong_size(random: &mut Random, plan: &Plan, statements: &mut Vec<Statement>)
         let statement = Statement::mseg(random, 0, &open_segment(plan));
         statements.push(statement);
     }
-    let places: Vec<usize> =
-        (0..statements.len()).filter(|&place| statements[place].is_mseg()).collect();
+    let places: Vec<usize> = (0..statements.len())
+        .filter(|&place| statements[place].is_mseg())
+        .collect();
     let place = random.pick(&places);
     statements[place].tokens[SUBJECT] = random.pick(&SIZES).to_vec();
 }
@@ -192,8 +235,11 @@ fn broken_rule(random: &mut Random, plan: &Plan, statement: &mut Statement) {
         return;
     }
     let weak = random.pick(&[Permission::NoAccess, Permission::ReadOnly]);
-    let permissions: Vec<Permission> =
-        plan.active.iter().map(|&active| if active { weak } else { Permission::ReadWrite }).collect();
+    let permissions: Vec<Permission> = plan
+        .active
+        .iter()
+        .map(|&active| if active { weak } else { Permission::ReadWrite })
+        .collect();
     statement.set_permissions(&permissions);
 }
 
@@ -202,7 +248,38 @@ fn no_code(random: &mut Random, statements: &mut Vec<Statement>) {
     if random.chance(1, 3) || !statements.iter().any(Statement::is_code) {
         return statements.clear();
     }
-    let places: Vec<usize> =
-        (0..statements.len()).filter(|&place| statements[place].is_code()).collect();
+    let places: Vec<usize> = (0..statements.len())
+        .filter(|&place| statements[place].is_code())
+        .collect();
     statements.remove(random.pick(&places));
+}
+
+/// One statement with several things wrong at once: which of them is answered shows the order.
+pub fn several_wrongs(random: &mut Random, plan: &Plan, statements: &mut [Statement]) {
+    let place = random.below(statements.len());
+    let Some(statement) = statements.get_mut(place) else {
+        return;
+    };
+    let count = plan.active.len();
+    if random.chance(1, 2) {
+        statement.tokens[INDEX] = format!("{}", random.pick(&[count, 16, 99])).into_bytes();
+    }
+    if statement.is_code() {
+        statement.tokens[CODE_PATH] = random.pick(&[&b"/scos/pw0"[..], b"/none"]).to_vec();
+        return;
+    }
+    if random.chance(1, 2) {
+        statement.tokens[HOST] = format!("{count}").into_bytes();
+    }
+    if random.chance(1, 2) {
+        let taken = path_token(random, &plan.codes[0].1);
+        let paths: &[&[u8]] = &[b"/scos/pw0", b"/none", &taken];
+        let sizes: &[&[u8]] = &[b"0", b"17MB"];
+        let subjects = if statement.is_dseg() { paths } else { sizes };
+        statement.tokens[SUBJECT] = random.pick(subjects).to_vec();
+    }
+    if random.chance(1, 2) {
+        let number = random.pick(&[count, count + 1]);
+        statement.set_permissions(&vec![Permission::NoAccess; number]);
+    }
 }

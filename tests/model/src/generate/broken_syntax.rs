@@ -39,11 +39,17 @@ fn out_of_order(random: &mut Random, statements: &mut Vec<Statement>) {
 
 /// A token that begins no statement, between two of them or behind the last.
 fn stray_token(random: &mut Random, statements: &mut Vec<Statement>) {
-    let stray: &[&[u8]] =
-        &[b";", b"x", b"}", b"\"", b"0", b"\r", b"\x00", b"CODE", b"/a;", b"\xff", b"\x7f", b"\x0b"];
+    let stray: &[&[u8]] = &[
+        b";", b"x", b"}", b"\"", b"0", b"\r", b"\x00", b"CODE", b"/a;", b"\xff", b"\x7f", b"\x0b",
+    ];
     let token = random.pick(stray).to_vec();
     let place = random.below(statements.len() + 1);
-    statements.insert(place, Statement { tokens: vec![token] });
+    statements.insert(
+        place,
+        Statement {
+            tokens: vec![token],
+        },
+    );
 }
 
 fn drop_token(random: &mut Random, statement: &mut Statement) {
@@ -73,10 +79,24 @@ fn bad_number(random: &mut Random, statement: &mut Statement) {
         b"0 0",
         b"0.0",
     ];
-    let place = if statement.is_code() { INDEX } else { random.pick(&[INDEX, HOST]) };
+    let place = if statement.is_code() {
+        INDEX
+    } else {
+        random.pick(&[INDEX, HOST])
+    };
     if statement.is_mseg() && random.chance(1, 2) {
-        let sizes: &[&[u8]] =
-            &[b"2 KB", b"2kb", b"2TB", b"2K", b"KB", b"2KBKB", b"4294967296", b"4294967296KB", b"2B", b"2#\nKB"];
+        let sizes: &[&[u8]] = &[
+            b"2 KB",
+            b"2kb",
+            b"2TB",
+            b"2K",
+            b"KB",
+            b"2KBKB",
+            b"4294967296",
+            b"4294967296KB",
+            b"2B",
+            b"2#\nKB",
+        ];
         statement.tokens[SUBJECT] = random.pick(sizes).to_vec();
     } else if place < statement.tokens.len() {
         statement.tokens[place] = random.pick(bad).to_vec();
@@ -111,12 +131,26 @@ fn bad_path(random: &mut Random, statements: &mut [Statement]) {
         1 => [&b"\"/"[..], &[b'x'; 63], b"\""].concat(),
         _ => random.pick(bad).to_vec(),
     };
-    let subject = if statements[place].is_code() { CODE_PATH } else { SUBJECT };
+    let subject = if statements[place].is_code() {
+        CODE_PATH
+    } else {
+        SUBJECT
+    };
     statements[place].tokens[subject] = token;
 }
 
 fn bad_word(random: &mut Random, statement: &mut Statement) {
-    let words: &[&[u8]] = &[b"code", b"CODES", b"COD", b"Dseg", b"MSE", b"DSEG DSEG", b"mseg", b"GSEG", b"\"CODE\""];
+    let words: &[&[u8]] = &[
+        b"code",
+        b"CODES",
+        b"COD",
+        b"Dseg",
+        b"MSE",
+        b"DSEG DSEG",
+        b"mseg",
+        b"GSEG",
+        b"\"CODE\"",
+    ];
     let last = statement.tokens.len() - 1;
     match random.below(4) {
         0 => statement.tokens[0] = random.pick(words).to_vec(),
@@ -137,7 +171,11 @@ fn bad_list(random: &mut Random, statement: &mut Statement) {
     match random.below(6) {
         0 => statement.set_permissions(&[]),
         1 => statement.tokens.insert(end, b",".to_vec()),
-        2 => statement.tokens[end - 1] = random.pick(&[&b"rw"[..], b"RX", b"R", b"WR", b"RWO", b"0", b""]).to_vec(),
+        2 => {
+            statement.tokens[end - 1] = random
+                .pick(&[&b"rw"[..], b"RX", b"R", b"WR", b"RWO", b"0", b""])
+                .to_vec()
+        }
         3 => drop(statement.tokens.remove(end - 2)),
         4 => statement.tokens[7] = b";".to_vec(),
         _ => statement.tokens.insert(end, b"NA".to_vec()),

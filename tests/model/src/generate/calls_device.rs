@@ -9,7 +9,7 @@ const SCREEN: usize = 2;
 
 impl Composer {
     pub fn device_call(&mut self) {
-        match self.random.weighted(&[5, 3, 6, 4]) {
+        match self.random.weighted(&[3, 4, 6, 4]) {
             0 => self.read_next(),
             1 => self.read_random(),
             2 => self.write_next(),
@@ -22,8 +22,16 @@ impl Composer {
         match self.random.weighted(&[85, 5, 4, 4, 2]) {
             0 => (meant, partition),
             1 => (3 - meant, partition),
-            2 => (meant, self.random.pick(&[0, 1, 2, 7, 8, partition + 256, 4_294_967_295])),
-            3 => (self.random.pick(&[0, 3, 255, 257, 258, 65_537, 4_294_967_295]), partition),
+            2 => (
+                meant,
+                self.random
+                    .pick(&[0, 1, 2, 7, 8, partition + 256, 4_294_967_295]),
+            ),
+            3 => (
+                self.random
+                    .pick(&[0, 3, 255, 257, 258, 65_537, 4_294_967_295]),
+                partition,
+            ),
             _ => (3 - meant, self.random.below(9)),
         }
     }
@@ -37,7 +45,9 @@ impl Composer {
         let (major, minor) = self.device(KEYBOARD, partition);
         let length = buffer_length(&mut self.random);
         let request = request(&mut self.random, length);
-        self.script.words(format!("read_next {partition} {major} {minor} {request} {length}"));
+        self.script.words(format!(
+            "read_next {partition} {major} {minor} {request} {length}"
+        ));
     }
 
     pub fn read_random(&mut self) {
@@ -46,8 +56,9 @@ impl Composer {
         let offset = offset(&mut self.random);
         let length = buffer_length(&mut self.random);
         let request = request(&mut self.random, length);
-        self.script
-            .words(format!("read_random {partition} {major} {minor} {offset} {request} {length}"));
+        self.script.words(format!(
+            "read_random {partition} {major} {minor} {offset} {request} {length}"
+        ));
     }
 
     pub fn write_next(&mut self) {
@@ -60,7 +71,9 @@ impl Composer {
         let (major, minor) = self.device(SCREEN, partition);
         let request = request(&mut self.random, bytes.len());
         let bytes = hex(bytes);
-        self.script.words(format!("write_next {partition} {major} {minor} {request} {bytes}"));
+        self.script.words(format!(
+            "write_next {partition} {major} {minor} {request} {bytes}"
+        ));
     }
 
     pub fn write_random(&mut self) {
@@ -70,8 +83,9 @@ impl Composer {
         let bytes = screen_bytes(&mut self.random);
         let request = request(&mut self.random, bytes.len());
         let bytes = hex(&bytes);
-        self.script
-            .words(format!("write_random {partition} {major} {minor} {offset} {request} {bytes}"));
+        self.script.words(format!(
+            "write_random {partition} {major} {minor} {offset} {request} {bytes}"
+        ));
     }
 
     /// Brings the cursor next to an edge and writes over it: column 79, row 24, both, column 0.
@@ -83,7 +97,17 @@ impl Composer {
         bytes.extend_from_slice(&self.random.printable(columns));
         self.write_next_bytes(partition, &bytes);
         for _ in 0..self.random.between(1, 3) {
-            let next: &[u8] = self.random.pick(&[b"x", &[8], &[8, 8, b'y'], &[10], &[13], &[13, 10], &[0], &[255], b"ab"]);
+            let next: &[u8] = self.random.pick(&[
+                b"x",
+                &[8],
+                &[8, 8, b'y'],
+                &[10],
+                &[13],
+                &[13, 10],
+                &[0],
+                &[255],
+                b"ab",
+            ]);
             self.write_next_bytes(partition, next);
         }
         self.script.words(format!("screen {partition}"));
@@ -106,7 +130,13 @@ fn request(random: &mut Random, length: usize) -> usize {
         1 => random.below(length + 1),
         2 => length + 1,
         3 => 0,
-        _ => random.pick(&[length + 2, length + 256, length + 65_536, 2_000, 4_294_967_295]),
+        _ => random.pick(&[
+            length + 2,
+            length + 256,
+            length + 65_536,
+            2_000,
+            4_294_967_295,
+        ]),
     }
 }
 
@@ -116,7 +146,15 @@ fn offset(random: &mut Random) -> usize {
         1 => random.pick(&[0, 1, 79, 80, 1_919, 1_920, 1_990, 1_995, 1_998, 1_999]),
         2 => 2_000,
         3 => 2_001,
-        _ => random.pick(&[2_002, 2_080, 4_000, 65_536, 67_535, 2_147_483_648, 4_294_967_295]),
+        _ => random.pick(&[
+            2_002,
+            2_080,
+            4_000,
+            65_536,
+            67_535,
+            2_147_483_648,
+            4_294_967_295,
+        ]),
     }
 }
 
@@ -131,13 +169,17 @@ pub fn screen_bytes(random: &mut Random) -> Vec<u8> {
             let length = random.pick(&[78, 79, 80, 81, 159, 160, 161]);
             random.printable(length)
         }
-        2 => (0..random.between(1, 40)).map(|_| control_or_letter(random)).collect(),
+        2 => (0..random.between(1, 40))
+            .map(|_| control_or_letter(random))
+            .collect(),
         3 => vec![random.pick(&[10, 10, 8, 13]); random.between(1, 26)],
         4 => {
             let length = random.between(1, 40);
             random.bytes(length)
         }
-        5 => (0..random.between(100, 500)).map(|_| control_or_letter(random)).collect(),
+        5 => (0..random.between(100, 500))
+            .map(|_| control_or_letter(random))
+            .collect(),
         6 => {
             let length = random.pick(&[1_999, 2_000, 2_001, 4_095, 4_096]);
             random.bytes(length)

@@ -32,7 +32,10 @@ impl Composer {
 
     fn load_from(&mut self, partition: usize, chosen: Chosen) {
         let (offset, length) = self.range(chosen.size);
-        self.script.words(format!("load {partition} {} {offset} {length}", chosen.selector));
+        self.script.words(format!(
+            "load {partition} {} {offset} {length}",
+            chosen.selector
+        ));
     }
 
     pub fn store(&mut self) {
@@ -44,7 +47,10 @@ impl Composer {
     fn store_to(&mut self, partition: usize, chosen: Chosen) {
         let (offset, length) = self.range(chosen.size);
         let bytes = hex(&self.random.bytes(length));
-        self.script.words(format!("store {partition} {} {offset} {bytes}", chosen.selector));
+        self.script.words(format!(
+            "store {partition} {} {offset} {bytes}",
+            chosen.selector
+        ));
     }
 
     pub fn flush(&mut self) {
@@ -61,7 +67,8 @@ impl Composer {
             2 => self.random.pick(&[0, 1, 4_294_967_295, 65_536]),
             _ => chosen.size,
         };
-        self.script.words(format!("flush {partition} {} {taken}", chosen.selector));
+        self.script
+            .words(format!("flush {partition} {} {taken}", chosen.selector));
     }
 
     /// A dseg is written, flushed and looked at again, also from another partition and, now and
@@ -84,7 +91,12 @@ impl Composer {
 
     /// Mostly a segment in the partition's list; else one of another, or a number at a limit.
     fn selector(&mut self, partition: usize, dseg: bool) -> Chosen {
-        let Some(plan) = &self.known.plan else { return Chosen { selector: FIRST_DSEG, size: 4 } };
+        let Some(plan) = &self.known.plan else {
+            return Chosen {
+                selector: FIRST_DSEG,
+                size: 4,
+            };
+        };
         let listed = segments(plan, Some(partition), dseg);
         let declared = segments(plan, None, dseg);
         match self.random.weighted(&[82, 8, 10]) {
@@ -92,11 +104,25 @@ impl Composer {
             0 | 1 if !declared.is_empty() => self.random.pick(&declared),
             _ => {
                 let selectors = [
-                    0, 1, 255, 256, 271, 272, 511, 512, 527, 528, 65_792, 4_294_967_295,
+                    0,
+                    1,
+                    255,
+                    256,
+                    271,
+                    272,
+                    511,
+                    512,
+                    527,
+                    528,
+                    65_792,
+                    4_294_967_295,
                     FIRST_DSEG + plan.dsegs.len(),
                     FIRST_MSEG + plan.msegs.len(),
                 ];
-                Chosen { selector: self.random.pick(&selectors), size: self.random.below(20) }
+                Chosen {
+                    selector: self.random.pick(&selectors),
+                    size: self.random.below(20),
+                }
             }
         }
     }
@@ -120,7 +146,10 @@ impl Composer {
             }
             3 => (0, random.around(longest).min(LONGEST_BUFFER)),
             4 => (random.around(size), 0),
-            5 => (random.pick(&[65_536, 2_147_483_648, 4_294_967_295]), random.below(9)),
+            5 => (
+                random.pick(&[65_536, 2_147_483_648, 4_294_967_295]),
+                random.below(9),
+            ),
             _ => (random.pick(&[4_294_967_295, 4_294_963_200]), LONGEST_BUFFER),
         }
     }
@@ -128,17 +157,29 @@ impl Composer {
 
 /// The segments that a partition has in its list, or all that are declared.
 fn segments(plan: &Plan, partition: Option<usize>, dsegs_only: bool) -> Vec<Chosen> {
-    let dsegs = plan.dsegs.iter().enumerate().map(|(index, segment)| (FIRST_DSEG + index, segment));
-    let msegs = plan.msegs.iter().enumerate().map(|(index, segment)| (FIRST_MSEG + index, segment));
+    let dsegs = plan
+        .dsegs
+        .iter()
+        .enumerate()
+        .map(|(index, segment)| (FIRST_DSEG + index, segment));
+    let msegs = plan
+        .msegs
+        .iter()
+        .enumerate()
+        .map(|(index, segment)| (FIRST_MSEG + index, segment));
     dsegs
         .chain(msegs)
         .filter(|(selector, _)| !dsegs_only || *selector < FIRST_MSEG)
         .filter(|(_, segment)| match partition {
             None => true,
-            Some(number) => {
-                segment.permissions.get(number).is_some_and(|&held| held != Permission::NoAccess)
-            }
+            Some(number) => segment
+                .permissions
+                .get(number)
+                .is_some_and(|&held| held != Permission::NoAccess),
         })
-        .map(|(selector, segment)| Chosen { selector, size: segment.size })
+        .map(|(selector, segment)| Chosen {
+            selector,
+            size: segment.size,
+        })
         .collect()
 }

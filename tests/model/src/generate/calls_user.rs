@@ -5,6 +5,8 @@ use super::passwords::{self, DIGEST};
 use super::script::hex;
 
 const LONGEST_STRING: usize = 32;
+/// The most bytes that a line can lend to a call.
+const LONGEST_PART: usize = 4_096;
 
 impl Composer {
     pub fn user_call(&mut self) {
@@ -28,7 +30,8 @@ impl Composer {
 
     fn login_line(&mut self, partition: usize, name: &[u8], password: &[u8]) {
         let (name, password) = (hex(name), hex(password));
-        self.script.words(format!("login {partition} {name} {password}"));
+        self.script
+            .words(format!("login {partition} {name} {password}"));
     }
 
     /// The name and password of one of the accounts, each behind its zero.
@@ -38,7 +41,11 @@ impl Composer {
             return self.login_unknown(partition);
         }
         // The last record of a crowd is worth reaching: the work count is greatest there.
-        let user = if self.random.chance(1, 3) { count - 1 } else { self.random.below(count) };
+        let user = if self.random.chance(1, 3) {
+            count - 1
+        } else {
+            self.random.below(count)
+        };
         let account = self.accounts(partition)[user].clone();
         let name = self.lent_string(&account.name);
         let password = self.lent_string(account.password.as_deref().unwrap_or(b"?"));
@@ -87,7 +94,10 @@ impl Composer {
 
     /// A name or a password without a zero in its place; the other part may be right or wrong.
     fn login_bad_string(&mut self, partition: usize) {
-        let known = self.accounts(partition).first().map(|account| account.name.clone());
+        let known = self
+            .accounts(partition)
+            .first()
+            .map(|account| account.name.clone());
         let name = match known {
             Some(name) if self.random.chance(2, 3) => self.lent_string(&name),
             _ => self.any_string(),
@@ -102,6 +112,9 @@ impl Composer {
         if self.random.chance(1, 5) {
             let more = self.random.pick(&[1, 2, 40]);
             lent.extend_from_slice(&self.random.bytes(more));
+        }
+        if self.random.chance(1, 100) {
+            lent.resize(LONGEST_PART, b'x');
         }
         lent
     }
@@ -156,9 +169,14 @@ impl Composer {
     pub fn set_password_of(&mut self, partition: usize) {
         let bad = self.random.chance(1, 6);
         let password = passwords::new_password(&mut self.random);
-        let lent = if bad { self.any_string() } else { self.lent_string(&password) };
+        let lent = if bad {
+            self.any_string()
+        } else {
+            self.lent_string(&password)
+        };
         let taken = self.taken(partition);
-        self.script.words(format!("set_password {partition} {} {taken}", hex(&lent)));
+        self.script
+            .words(format!("set_password {partition} {} {taken}", hex(&lent)));
         if !bad {
             self.learn_password(partition, password, taken);
         }
@@ -178,13 +196,17 @@ impl Composer {
             2 => self.random.around(digest),
             3 => self.random.around(digest + DIGEST),
             4 => digest + self.random.below(DIGEST),
-            _ => self.random.pick(&[0, 1, size / 2, size + 1_000, 4_294_967_295]),
+            _ => self
+                .random
+                .pick(&[0, 1, size / 2, size + 1_000, 4_294_967_295]),
         }
     }
 
     /// What a user's password is after the call: new, old, or a mix of digests nobody can meet.
     fn learn_password(&mut self, partition: usize, password: Vec<u8>, taken: usize) {
-        let Some(user) = self.login_of(partition) else { return };
+        let Some(user) = self.login_of(partition) else {
+            return;
+        };
         if self.known.stopped || user >= self.accounts(partition).len() {
             return;
         }
@@ -205,7 +227,9 @@ impl Composer {
         }
         self.logout_of(partition);
         self.login_right(partition);
-        let Some(user) = self.login_of(partition) else { return };
+        let Some(user) = self.login_of(partition) else {
+            return;
+        };
         let old = self.accounts(partition)[user].clone();
         self.set_password_of(partition);
         self.script.words(format!("who {partition} 33"));

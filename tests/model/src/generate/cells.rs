@@ -51,7 +51,8 @@ pub fn can_arise(call: &str, number: u16) -> bool {
     if matches!(number, 0 | 212 | 213 | 216) {
         return true;
     }
-    OWN.iter().any(|(name, numbers)| *name == call && numbers.contains(&number))
+    OWN.iter()
+        .any(|(name, numbers)| *name == call && numbers.contains(&number))
 }
 
 const DEVICE_CALLS: &[&str] = &["read_next", "read_random", "write_next", "write_random"];
@@ -63,11 +64,24 @@ const USER_CALLS: &[&str] = &["login", "who", "logout", "set_password"];
 const PLAIN_CALLS: &[&str] = &["logout", "shutdown", "powerdown"];
 const WHOLE_CALLS: &[&str] = &["shutdown", "powerdown", "configuration"];
 const ALL_CALLS: &[&str] = &[
-    "read_next", "read_random", "write_next", "write_random", "load", "store", "flush", "login",
-    "who", "logout", "set_password", "shutdown", "powerdown", "configuration",
+    "read_next",
+    "read_random",
+    "write_next",
+    "write_random",
+    "load",
+    "store",
+    "flush",
+    "login",
+    "who",
+    "logout",
+    "set_password",
+    "shutdown",
+    "powerdown",
+    "configuration",
 ];
-const START_NUMBERS: &[u16] =
-    &[401, 402, 403, 404, 405, 406, 407, 408, 409, 410, 411, 412, 413, 414, 415, 416];
+const START_NUMBERS: &[u16] = &[
+    401, 402, 403, 404, 405, 406, 407, 408, 409, 410, 411, 412, 413, 414, 415, 416,
+];
 const CALL_NUMBERS: &[u16] = &[
     201, 202, 203, 204, 205, 206, 207, 208, 209, 210, 211, 212, 213, 214, 216, 300, 301, 302, 303,
 ];
@@ -76,31 +90,79 @@ const CALL_NUMBERS: &[u16] = &[
 pub type Never = (&'static [&'static str], &'static [u16], &'static str);
 
 pub const NEVER: &[Never] = &[
-    (&["start"], CALL_NUMBERS, "start may be made on any state and refuses with 401 to 416 only"),
+    (
+        &["start"],
+        CALL_NUMBERS,
+        "start may be made on any state and refuses with 401 to 416 only",
+    ),
     (ALL_CALLS, START_NUMBERS, "only start is refused with these"),
     (DEVICE_CALLS, &[201, 211], "names a device, no segment"),
     (READS, &[202, 203], "writes nothing"),
     (WRITES, &[206, 207], "reads nothing"),
-    (&["write_random"], &[202], "the keyboard is refused before, as not random"),
+    (
+        &["write_random"],
+        &[202],
+        "the keyboard is refused before, as not random",
+    ),
     (&["read_random"], &[206], "a screen always holds its cells"),
     (NEXT_CALLS, &[208, 209, 210], "has no offset"),
-    (DEVICE_CALLS, &[300, 301, 302, 303], "asks nothing of the login"),
-    (MEMORY_CALLS, &[204, 205, 206, 207, 208, 210], "names a segment, no device"),
-    (MEMORY_CALLS, &[300, 301, 302, 303], "asks nothing of the login"),
+    (
+        DEVICE_CALLS,
+        &[300, 301, 302, 303],
+        "asks nothing of the login",
+    ),
+    (
+        MEMORY_CALLS,
+        &[204, 205, 206, 207, 208, 210],
+        "names a segment, no device",
+    ),
+    (
+        MEMORY_CALLS,
+        &[300, 301, 302, 303],
+        "asks nothing of the login",
+    ),
     (MEMORY_CALLS, &[214], "has no request beside the lent part"),
     (&["load", "store"], &[201, 203], "does not reach the store"),
     (&["load"], &[202], "writes nothing"),
     (&["flush"], &[209], "has no range: it is the whole segment"),
-    (USER_CALLS, &[201, 202, 204, 205, 206, 207, 208, 209, 210, 211], "names no device or segment"),
-    (&["login", "who", "logout"], &[203], "does not reach the store"),
-    (&["login", "set_password"], &[214], "a string that does not end in time is 302"),
+    (
+        USER_CALLS,
+        &[201, 202, 204, 205, 206, 207, 208, 209, 210, 211],
+        "names no device or segment",
+    ),
+    (
+        &["login", "who", "logout"],
+        &[203],
+        "does not reach the store",
+    ),
+    (
+        &["login", "set_password"],
+        &[214],
+        "a string that does not end in time is 302",
+    ),
     (&["login"], &[303], "asks for nobody to be logged in"),
-    (&["who"], &[300, 301, 302, 303], "answers the same for nobody, and reads no string"),
-    (&["logout"], &[300, 301, 302, 303], "always succeeds past the common checks"),
+    (
+        &["who"],
+        &[300, 301, 302, 303],
+        "answers the same for nobody, and reads no string",
+    ),
+    (
+        &["logout"],
+        &[300, 301, 302, 303],
+        "always succeeds past the common checks",
+    ),
     (&["set_password"], &[300, 301], "tries no password"),
     (PLAIN_CALLS, &[214], "is lent no buffer to fill"),
-    (WHOLE_CALLS, &[201, 202, 203, 204, 205, 206, 207, 208, 209, 210, 211], "names no device or segment, and a faulty screen is no failure"),
-    (WHOLE_CALLS, &[300, 301, 302, 303], "asks nothing of the login"),
+    (
+        WHOLE_CALLS,
+        &[201, 202, 203, 204, 205, 206, 207, 208, 209, 210, 211],
+        "names no device or segment, and a faulty screen is no failure",
+    ),
+    (
+        WHOLE_CALLS,
+        &[300, 301, 302, 303],
+        "asks nothing of the login",
+    ),
 ];
 
 /// The reason why the call cannot answer with the number.
@@ -122,9 +184,15 @@ mod tests {
             for number in NUMBERS {
                 let reasons = NEVER
                     .iter()
-                    .filter(|(calls, numbers, _)| calls.contains(&call) && numbers.contains(&number))
+                    .filter(|(calls, numbers, _)| {
+                        calls.contains(&call) && numbers.contains(&number)
+                    })
                     .count();
-                assert_eq!(reasons, usize::from(!can_arise(call, number)), "{call} {number}");
+                assert_eq!(
+                    reasons,
+                    usize::from(!can_arise(call, number)),
+                    "{call} {number}"
+                );
             }
         }
     }

@@ -70,18 +70,37 @@ impl Composer {
         }
     }
 
+    /// A passive partition or one that is not there.
+    pub fn inactive_partition(&mut self) -> usize {
+        let active = match &self.known.plan {
+            Some(plan) => plan.active.clone(),
+            None => Vec::new(),
+        };
+        let passive: Vec<usize> = (0..active.len()).filter(|&place| !active[place]).collect();
+        if !passive.is_empty() && self.random.chance(1, 2) {
+            return self.random.pick(&passive);
+        }
+        self.random
+            .pick(&[active.len(), 8, 9, 255, 256, 65_536, 4_294_967_295])
+    }
+
     /// Mostly an active partition; now and then a passive, unknown or huge one.
     pub fn any_partition(&mut self) -> usize {
         match self.random.weighted(&[92, 5, 3]) {
             0 => self.active_partition(),
             1 => self.random.below(10),
-            _ => self.random.pick(&[8, 9, 16, 255, 256, 65_536, 2_147_483_648, 4_294_967_295]),
+            _ => self
+                .random
+                .pick(&[8, 9, 16, 255, 256, 65_536, 2_147_483_648, 4_294_967_295]),
         }
     }
 
     /// The accounts of a partition as the text knows them.
     pub fn accounts(&self, partition: usize) -> &[Account] {
-        self.known.accounts.get(partition).map_or(&[], Vec::as_slice)
+        self.known
+            .accounts
+            .get(partition)
+            .map_or(&[], Vec::as_slice)
     }
 
     pub fn login_of(&self, partition: usize) -> Option<usize> {

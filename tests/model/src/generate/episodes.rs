@@ -18,7 +18,10 @@ impl Composer {
     }
 
     pub fn episode(&mut self) {
-        match self.random.weighted(&[24, 20, 16, 2, 6, 5, 6, 6, 5, 3, 4, 2, 2, 6, 5, 1]) {
+        match self
+            .random
+            .weighted(&[24, 20, 17, 4, 9, 5, 6, 6, 5, 4, 4, 2, 2, 7, 5, 1])
+        {
             0 => self.several(Composer::device_call),
             1 => self.several(Composer::memory_call),
             2 => self.several(Composer::user_call),
@@ -49,16 +52,18 @@ impl Composer {
     }
 
     fn several(&mut self, call: fn(&mut Composer)) {
-        for _ in 0..self.random.between(2, 6) {
+        for _ in 0..self.random.between(4, 9) {
             call(self);
         }
     }
 
     fn odd_lines(&mut self) {
-        if self.random.chance(1, 3) {
-            return self.passed_over();
+        match self.random.below(6) {
+            0 | 1 => return self.passed_over(),
+            2 => return self.odd_good_line(),
+            _ => {}
         }
-        for _ in 0..self.random.between(1, 2) {
+        for _ in 0..self.random.between(1, 3) {
             self.bad_line();
         }
     }
@@ -83,7 +88,9 @@ impl Composer {
 
     /// An area of another length, or tables overwritten, and the calls that are lent it.
     fn area_story(&mut self) {
-        let area = self.random.pick(&[ARENA, TABLES, TABLES, SCREENS, SCREENS, STORE, STORE]);
+        let area = self
+            .random
+            .pick(&[ARENA, TABLES, TABLES, SCREENS, SCREENS, STORE, STORE]);
         let logins = self.known.logins;
         let accounts = self.known.accounts.clone();
         let stopped = self.known.stopped;
@@ -104,6 +111,11 @@ impl Composer {
         self.mend(area);
     }
 
+    pub fn spoil_any(&mut self) {
+        let area = self.random.pick(&[ARENA, TABLES, SCREENS, STORE]);
+        self.spoil(area);
+    }
+
     fn spoil(&mut self, area: usize) {
         if area == STORE {
             return self.spoil_store();
@@ -115,7 +127,11 @@ impl Composer {
             1 => length + 1,
             _ => length.saturating_sub(1),
         };
-        let other = if other == length && area != TABLES { length + 1 } else { other };
+        let other = if other == length && area != TABLES {
+            length + 1
+        } else {
+            other
+        };
         self.set_length(area, other.min(65_535));
     }
 

@@ -26,7 +26,9 @@ impl Composer {
             return;
         }
         let active = plan.active_partitions();
-        let behind = active.iter().find(|&&partition| partition > self.known.focus);
+        let behind = active
+            .iter()
+            .find(|&&partition| partition > self.known.focus);
         self.known.focus = behind.copied().unwrap_or(active[0]);
     }
 
@@ -39,7 +41,8 @@ impl Composer {
             _ => self.random.pick(&[0, 3, 257, 258, 4_294_967_295]),
         };
         let word = self.random.pick(&["set", "clear"]);
-        self.script.words(format!("fault {partition} {device} {word}"));
+        self.script
+            .words(format!("fault {partition} {device} {word}"));
     }
 
     /// Keys for one partition, which first gets the focus, and reads of them.
@@ -66,7 +69,8 @@ impl Composer {
             self.read_next_of(partition);
         }
         self.key();
-        self.script.words(format!("read_next {partition} 1 {partition} 65 65"));
+        self.script
+            .words(format!("read_next {partition} 1 {partition} 65 65"));
     }
 
     fn focus_on(&mut self, partition: usize) {
@@ -82,6 +86,10 @@ impl Composer {
         let partition = self.active_partition();
         let device = self.random.pick(&[1, 2, 2]);
         self.script.words(format!("fault {partition} {device} set"));
+        if self.random.chance(1, 4) {
+            self.script
+                .words(format!("fault {partition} {} set", 3 - device));
+        }
         for _ in 0..self.random.between(2, 5) {
             match device {
                 1 => self.read_next_of(partition),
@@ -92,7 +100,8 @@ impl Composer {
             self.show();
         }
         if self.random.chance(4, 5) {
-            self.script.words(format!("fault {partition} {device} clear"));
+            self.script
+                .words(format!("fault {partition} {device} clear"));
         }
     }
 

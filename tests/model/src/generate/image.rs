@@ -19,13 +19,18 @@ fn file_record(path: &[u8], contents: &[u8]) -> Vec<u8> {
 }
 
 pub fn good(files: &[File]) -> Vec<u8> {
-    files.iter().flat_map(|file| file_record(&file.path, &file.contents)).collect()
+    files
+        .iter()
+        .flat_map(|file| file_record(&file.path, &file.contents))
+        .collect()
 }
 
 /// The records of the files with a bad record before, between or behind them.
 pub fn broken(random: &mut Random, files: &[File]) -> Vec<u8> {
-    let mut records: Vec<Vec<u8>> =
-        files.iter().map(|file| file_record(&file.path, &file.contents)).collect();
+    let mut records: Vec<Vec<u8>> = files
+        .iter()
+        .map(|file| file_record(&file.path, &file.contents))
+        .collect();
     if random.chance(1, 4) {
         return cut_short(random, &records);
     }

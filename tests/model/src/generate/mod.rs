@@ -16,6 +16,7 @@ mod composer;
 mod episodes;
 mod events;
 mod image;
+pub mod load_texts;
 mod passwords;
 mod plan;
 mod random;
@@ -26,35 +27,15 @@ mod statements;
 pub mod tally;
 
 use composer::Composer;
-pub use random::Random;
-pub use script::hex;
 
 /// The replay text of a seed.
 pub fn text(seed: u64) -> Vec<u8> {
     let mut composer = Composer::new(seed);
     let lines = match composer.random.below(12) {
         0 => composer.random.between(1, 40),
-        _ => composer.random.between(170, 260),
+        _ => composer.random.between(200, 270),
     };
-    compose(composer, lines)
-}
-
-/// A text of many lines, for load.
-pub fn long_text(seed: u64, lines: usize) -> Vec<u8> {
-    compose(Composer::new(seed), lines)
-}
-
-fn compose(mut composer: Composer, lines: usize) -> Vec<u8> {
-    if composer.random.chance(1, 4) {
-        composer.before_any_start();
-    }
-    while composer.random.chance(2, 5) {
-        composer.refused_start();
-        if composer.random.chance(1, 4) {
-            composer.before_any_start();
-        }
-    }
-    composer.accepted_start();
+    begin(&mut composer);
     while composer.script.lines() < lines {
         composer.episode();
     }
@@ -65,3 +46,20 @@ fn compose(mut composer: Composer, lines: usize) -> Vec<u8> {
     let last_line_feed = composer.random.chance(2, 3);
     composer.script.finish(last_line_feed)
 }
+
+/// Up to the first accepted start: now and then calls too early, or starts that are refused.
+fn begin(composer: &mut Composer) {
+    if composer.random.chance(1, 4) {
+        composer.before_any_start();
+    }
+    while composer.random.chance(2, 5) {
+        composer.refused_start();
+        if composer.random.chance(1, 4) {
+            composer.before_any_start();
+        }
+    }
+    composer.accepted_start();
+}
+
+#[cfg(test)]
+mod tests;

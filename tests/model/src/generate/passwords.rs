@@ -23,7 +23,10 @@ pub fn accounts(random: &mut Random, count: usize) -> Vec<Account> {
             _ => new_name(random),
         };
         if accounts.iter().all(|account| account.name != name) {
-            accounts.push(Account { name, password: Some(new_password(random)) });
+            accounts.push(Account {
+                name,
+                password: Some(new_password(random)),
+            });
         }
     }
     accounts

@@ -2,6 +2,7 @@
 
 use super::passwords;
 use super::random::Random;
+use super::setup::LONGEST_AREA;
 
 #[derive(Clone, Copy, PartialEq, Eq, Debug)]
 pub enum Permission {
@@ -74,6 +75,9 @@ impl Plan {
         for _ in 0..msegs {
             plan.add_mseg(random);
         }
+        if style == Style::Full && random.chance(1, 2) {
+            plan.open_all_segments(random);
+        }
         plan.add_accounts(random, style);
         plan.add_other_files(random, &mut paths);
         random.shuffle(&mut plan.files);
@@ -86,8 +90,9 @@ impl Plan {
             Style::Usual => random.pick(&[1, 2, 2, 3, 3, 3, 4, 5, 8]),
             Style::Full => 8,
         };
-        let mut active: Vec<bool> =
-            (0..count).map(|_| style == Style::Full || random.chance(3, 4)).collect();
+        let mut active: Vec<bool> = (0..count)
+            .map(|_| style == Style::Full || random.chance(3, 4))
+            .collect();
         let sure = random.below(count);
         active[sure] = true;
         Plan {
@@ -102,7 +107,9 @@ impl Plan {
     }
 
     pub fn active_partitions(&self) -> Vec<usize> {
-        (0..self.active.len()).filter(|&partition| self.active[partition]).collect()
+        (0..self.active.len())
+            .filter(|&partition| self.active[partition])
+            .collect()
     }
 
     fn add_codes(&mut self, random: &mut Random, paths: &mut Paths) {
@@ -122,7 +129,10 @@ impl Plan {
     fn add_file(&mut self, random: &mut Random, paths: &mut Paths) -> Vec<u8> {
         let path = paths.next(random);
         let size = random.pick(&[0, 1, 2, 7, 20, 33, 60, 80, 100, 150]);
-        self.files.push(File { path: path.clone(), contents: random.bytes(size) });
+        self.files.push(File {
+            path: path.clone(),
+            contents: random.bytes(size),
+        });
         path
     }
 
@@ -138,7 +148,12 @@ impl Plan {
         if self.active[host] && permissions[host] == Permission::NoAccess {
             permissions[host] = random.pick(&[Permission::ReadOnly, Permission::ReadWrite]);
         }
-        self.dsegs.push(Segment { path, size, host, permissions });
+        self.dsegs.push(Segment {
+            path,
+            size,
+            host,
+            permissions,
+        });
     }
 
     pub fn add_mseg(&mut self, random: &mut Random) {
@@ -151,7 +166,22 @@ impl Plan {
         let mut permissions = self.permissions(random);
         let writer = random.pick(&self.active_partitions());
         permissions[writer] = Permission::ReadWrite;
-        self.msegs.push(Segment { path: Vec::new(), size, host, permissions });
+        self.msegs.push(Segment {
+            path: Vec::new(),
+            size,
+            host,
+            permissions,
+        });
+    }
+
+    /// One partition gets every segment into its list, so that a list of 32 comes up.
+    fn open_all_segments(&mut self, random: &mut Random) {
+        let partition = random.pick(&self.active_partitions());
+        for segment in self.dsegs.iter_mut().chain(&mut self.msegs) {
+            if segment.permissions[partition] == Permission::NoAccess {
+                segment.permissions[partition] = Permission::ReadOnly;
+            }
+        }
     }
 
     fn permissions(&self, random: &mut Random) -> Vec<Permission> {
@@ -166,20 +196,27 @@ impl Plan {
 
     fn add_accounts(&mut self, random: &mut Random, style: Style) {
         let crowded = random.pick(&self.active_partitions());
+        let all_crowded = random.chance(1, 8);
         for partition in 0..self.active.len() {
             let count = match style {
                 Style::Tiny => random.below(2),
-                Style::Full if partition == crowded => random.pick(&[63, 64, 64]),
+                Style::Full if partition == crowded || all_crowded => random.pick(&[63, 64, 64]),
                 _ => random.pick(&[0, 1, 2, 2, 3, 4, 6]),
             };
             if self.active[partition] {
                 self.accounts[partition] = passwords::accounts(random, count);
                 let contents = passwords::file(&self.accounts[partition]);
-                self.files.push(File { path: passwords::path(partition), contents });
+                self.files.push(File {
+                    path: passwords::path(partition),
+                    contents,
+                });
             } else if random.chance(1, 2) {
                 // Nobody reads a passive partition's password file: it may hold anything.
                 let contents = random.bytes(11);
-                self.files.push(File { path: passwords::path(partition), contents });
+                self.files.push(File {
+                    path: passwords::path(partition),
+                    contents,
+                });
             }
         }
     }
@@ -189,9 +226,37 @@ impl Plan {
             self.add_file(random, paths);
         }
         if random.chance(1, 4) {
-            let path = random.pick(&[&b"/scos/pw9"[..], b"/scos/", b"xy", b"\x00\xff", b"/scos/pw00"]);
-            self.files.push(File { path: path.to_vec(), contents: random.bytes(3) });
+            let path = random.pick(&[
+                &b"/scos/pw9"[..],
+                b"/scos/",
+                b"xy",
+                b"\x00\xff",
+                b"/scos/pw00",
+            ]);
+            self.files.push(File {
+                path: path.to_vec(),
+                contents: random.bytes(3),
+            });
         }
+        if random.chance(1, 80) {
+            self.fill_store(random);
+        }
+    }
+
+    /// One more file that brings the store to the greatest length a replay text can give it.
+    fn fill_store(&mut self, random: &mut Random) {
+        const FILE_HEADER: usize = 7;
+        let path = b"/the rest";
+        let taken: usize = self
+            .files
+            .iter()
+            .map(|file| FILE_HEADER + file.path.len() + file.contents.len())
+            .sum();
+        let rest = LONGEST_AREA.saturating_sub(taken + FILE_HEADER + path.len());
+        self.files.push(File {
+            path: path.to_vec(),
+            contents: random.bytes(rest),
+        });
     }
 }
 
@@ -213,8 +278,15 @@ impl Paths {
         const FIRST: &[u8; 36] = b"0123456789ABCDEFGHIJKLMNOPQRSTUVWXYZ";
         const PLAIN: &[u8] = b"abcxyz019./-_=[]'~!:RWNAOCODE";
         const QUOTED: &[u8] = b"ab ,;{} /.=c";
-        let mut path = vec![b'/', FIRST[self.serial % 36]];
         self.serial += 1;
+        // Near misses of the reserved beginning; each belongs to one serial, so none comes twice.
+        match self.serial {
+            3 if random.chance(1, 6) => return b"/scos".to_vec(),
+            4 if random.chance(1, 6) => return b"/scosx/pw0".to_vec(),
+            5 if random.chance(1, 6) => return b"/SCOS/pw0".to_vec(),
+            _ => {}
+        }
+        let mut path = vec![b'/', FIRST[self.serial % 36]];
         let length = random.pick(&[2, 3, 5, 8, 8, 9, 12, 20, 62, 63]);
         let letters = if random.chance(1, 3) { QUOTED } else { PLAIN };
         while path.len() < length {

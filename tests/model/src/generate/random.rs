@@ -8,7 +8,9 @@ pub struct Random {
 impl Random {
     pub fn new(seed: u64) -> Random {
         // Neighbouring seeds are spread, so that text 1 is not text 0 one step later.
-        let mut random = Random { state: seed.wrapping_mul(0xD134_2543_DE82_EF95) };
+        let mut random = Random {
+            state: seed.wrapping_mul(0xD134_2543_DE82_EF95),
+        };
         random.next();
         random
     }

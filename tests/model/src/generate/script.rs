@@ -1,19 +1,30 @@
 //! The replay text while it is being written, line by line.
 
+use super::cells::CALLS;
+
 pub struct Script {
     bytes: Vec<u8>,
     lines: usize,
+    calls: usize,
 }
 
 impl Script {
     pub fn new() -> Script {
-        Script { bytes: Vec::new(), lines: 0 }
+        Script {
+            bytes: Vec::new(),
+            lines: 0,
+            calls: 0,
+        }
     }
 
     pub fn line(&mut self, line: &[u8]) {
         self.bytes.extend_from_slice(line);
         self.bytes.push(b'\n');
         self.lines += 1;
+        let word = line.split(|&byte| byte == b' ').next().unwrap_or(b"");
+        if CALLS.iter().any(|call| call.as_bytes() == word) {
+            self.calls += 1;
+        }
     }
 
     pub fn words(&mut self, line: String) {
@@ -22,6 +33,15 @@ impl Script {
 
     pub fn lines(&self) -> usize {
         self.lines
+    }
+
+    /// The lines that begin with the word of a call, bad ones among them.
+    pub fn calls(&self) -> usize {
+        self.calls
+    }
+
+    pub fn bytes(&self) -> usize {
+        self.bytes.len()
     }
 
     /// The text, with or without the last line feed: bytes behind the last one are a line too.

@@ -1,6 +1,6 @@
 //! Everything a start reads: partitions, areas, text and image, good or broken in one way or two.
 
-use super::broken_meaning::break_meaning;
+use super::broken_meaning::{break_meaning, several_wrongs};
 use super::broken_syntax::break_syntax;
 use super::image;
 use super::passwords;
@@ -48,8 +48,12 @@ impl Setup {
     /// that the order of the checks shows.
     pub fn broken(random: &mut Random) -> Setup {
         let mut refusals = vec![random.between(*REFUSALS.start(), *REFUSALS.end())];
-        if random.chance(1, 4) {
+        if random.chance(1, 3) {
             refusals.push(random.between(*REFUSALS.start(), *REFUSALS.end()));
+        }
+        // A CODE too many and a CODE too few could come out even.
+        if refusals.contains(&414) {
+            refusals.retain(|refusal| !matches!(refusal, 407 | 408));
         }
         // Syntax comes last: the other breaks look for their tokens in whole statements.
         refusals.sort_by_key(|&refusal| refusal == 404);
@@ -58,6 +62,9 @@ impl Setup {
             fill_segments(random, &mut plan);
         }
         let mut statements = statements::of(random, &plan);
+        if random.chance(1, 8) {
+            several_wrongs(random, &plan, &mut statements);
+        }
         for &refusal in &refusals {
             match refusal {
                 404 => break_syntax(random, &mut statements),
@@ -78,15 +85,36 @@ impl Setup {
         let text = statements::render(random, statements);
         let image = image::good(&plan.files);
         let (arena, tables, screens) = lengths(random, &plan);
-        let letters = plan.active.iter().map(|&active| if active { b'A' } else { b'P' }).collect();
-        Setup { plan, letters, text, image, arena, tables, screens, refused: false }
+        let letters = plan
+            .active
+            .iter()
+            .map(|&active| if active { b'A' } else { b'P' })
+            .collect();
+        Setup {
+            plan,
+            letters,
+            text,
+            image,
+            arena,
+            tables,
+            screens,
+            refused: false,
+        }
     }
 
     /// The breaks that lie outside the statements and the files.
     fn break_outside(&mut self, random: &mut Random, refusal: usize) {
         match refusal {
             401 => {
-                let letters: &[&[u8]] = &[b"P", b"PPP", b"PPPPPPPP", b"AAAAAAAAA", b"PPPPPPPPA", b"APAPAPAPAPAPAP", b"PPPPPPPPPPA"];
+                let letters: &[&[u8]] = &[
+                    b"P",
+                    b"PPP",
+                    b"PPPPPPPP",
+                    b"AAAAAAAAA",
+                    b"PPPPPPPPA",
+                    b"APAPAPAPAPAPAP",
+                    b"PPPPPPPPPPA",
+                ];
                 self.letters = random.pick(letters).to_vec();
             }
             402 => {
@@ -106,13 +134,17 @@ impl Setup {
         match random.below(4) {
             0 if arena > 0 => self.arena = arena - 1,
             1 if tables > 0 => self.tables = tables - 1,
-            2 if self.plan.msegs.len() < 16 => {
+            2 if self.plan.msegs.len() < 16 && self.text.len() < LONGEST_SETUP - 100 => {
                 let size = random.pick(&["16777216", "16384KB", "16MB", "65537", "64KB", "4096KB"]);
                 let permissions = vec!["RW"; self.plan.active.len()].join(",");
                 let index = self.plan.msegs.len();
                 let statement = format!("\nMSEG[{index}]={{{size},0,{permissions}}};");
                 self.text.extend_from_slice(statement.as_bytes());
-                self.arena = if size == "64KB" { arena + LONGEST_AREA - 1 } else { arena };
+                self.arena = if size == "64KB" {
+                    arena + LONGEST_AREA - 1
+                } else {
+                    arena
+                };
                 self.arena = self.arena.min(LONGEST_AREA);
             }
             _ => self.screens = random.pick(&[screens - 1, screens - SCREEN, 0]),
@@ -125,7 +157,10 @@ fn fill_segments(random: &mut Random, plan: &mut Plan) {
     let mut paths = Paths { serial: 13 };
     plan.dsegs.clear();
     if random.chance(1, 2) {
-        plan.files.retain(|file| plan.codes.iter().any(|(_, path)| *path == file.path) || file.path.starts_with(b"/scos/"));
+        plan.files.retain(|file| {
+            plan.codes.iter().any(|(_, path)| *path == file.path)
+                || file.path.starts_with(b"/scos/")
+        });
         while plan.dsegs.len() < 16 {
             plan.add_dseg(random, &mut paths);
         }
@@ -150,7 +185,12 @@ fn break_passwords(random: &mut Random, plan: &mut Plan) {
 
 /// The bytes that a start needs in the arena, the tables and the screens.
 pub fn needs(plan: &Plan) -> (usize, usize, usize) {
-    let arena = plan.dsegs.iter().chain(&plan.msegs).map(|segment| segment.size).sum();
+    let arena = plan
+        .dsegs
+        .iter()
+        .chain(&plan.msegs)
+        .map(|segment| segment.size)
+        .sum();
     let mut tables = 0;
     for partition in plan.active_partitions() {
         let path = passwords::path(partition);
@@ -169,5 +209,9 @@ fn lengths(random: &mut Random, plan: &Plan) -> (usize, usize, usize) {
         _ => needed,
     };
     let lengths = (length(arena), length(tables), length(screens));
-    (lengths.0.min(LONGEST_AREA), lengths.1.min(LONGEST_AREA), lengths.2)
+    (
+        lengths.0.min(LONGEST_AREA),
+        lengths.1.min(LONGEST_AREA),
+        lengths.2,
+    )
 }

@@ -2,7 +2,10 @@
 
 use super::composer::{Composer, ARENA, SCREENS, STORE, TABLES};
 use super::script::hex;
-use super::setup::{needs, Setup};
+use super::setup::{needs, Setup, LONGEST_AREA};
+
+/// The longest set-up text that a replay text can give.
+const LONGEST_TEXT: usize = 20_000;
 
 impl Composer {
     pub fn accepted_start(&mut self) {
@@ -19,7 +22,7 @@ impl Composer {
 
     /// A start on what stands there already, or on a new set-up where that would not do.
     pub fn restart(&mut self) {
-        if !self.ready_as_is() || self.random.chance(1, 3) {
+        if !self.ready_as_is() || self.random.chance(1, 5) {
             return self.accepted_start();
         }
         self.restore_lengths();
@@ -72,11 +75,22 @@ impl Composer {
                 _ => self.append(b"image ", &setup.image),
             }
         }
+        self.overfill(&setup);
         self.text_length = setup.text.len();
         self.lengths[STORE] = setup.image.len();
         self.store_spoiled = false;
         self.store_fresh = true;
         self.next = Some(setup);
+    }
+
+    /// Where text or store are full, a line that would go beyond: it is bad and appends nothing.
+    fn overfill(&mut self, setup: &Setup) {
+        if setup.text.len() + 2 > LONGEST_TEXT {
+            self.script.line(b"text 2020");
+        }
+        if setup.image.len() == LONGEST_AREA {
+            self.script.line(b"image 00");
+        }
     }
 
     pub fn clear(&mut self) {
@@ -95,7 +109,8 @@ impl Composer {
 
     fn announce_soft(&mut self, soft: bool) {
         if self.soft != soft || self.random.chance(1, 3) {
-            self.script.line(if soft { b"soft yes" } else { b"soft no" });
+            self.script
+                .line(if soft { b"soft yes" } else { b"soft no" });
             self.soft = soft;
         }
     }
@@ -137,7 +152,9 @@ impl Composer {
     /// Clears text and store and appends the same again: the terminal does not notice, though
     /// what was written to the store meanwhile is gone.
     pub fn replace_store(&mut self, altered: bool) {
-        let Some(setup) = self.next.clone() else { return };
+        let Some(setup) = self.next.clone() else {
+            return;
+        };
         if setup.refused {
             return;
         }
@@ -158,8 +175,9 @@ impl Composer {
 
     /// A start that is refused for a small thing, while a terminal runs.
     pub fn refused_restart(&mut self) {
-        match self.random.below(4) {
+        match self.random.below(5) {
             0 => self.restart_without_partitions(),
+            3 => self.restart_with_one_letter_changed(),
             1 => self.restart_on_short_area(),
             2 => self.restart_on_longer_text(),
             _ => self.refused_start(),
@@ -170,8 +188,21 @@ impl Composer {
         let letters = self.letters.clone();
         let bad: &[&[u8]] = &[b"P", b"PP", b"AAAAAAAAAAAA", b"PPPPPPPPA"];
         self.letters = self.random.pick(bad).to_vec();
-        self.script.line(&[b"partitions ", &self.letters[..]].concat());
+        self.script
+            .line(&[b"partitions ", &self.letters[..]].concat());
         self.script.line(b"start");
+        self.announce_partitions(&letters);
+    }
+
+    /// A partition that turns active has no CODE, one that turns passive has one too many.
+    fn restart_with_one_letter_changed(&mut self) {
+        let letters = self.letters.clone();
+        let place = self.random.below(letters.len());
+        let mut changed = letters.clone();
+        changed[place] = if letters[place] == b'A' { b'P' } else { b'A' };
+        self.script.line(&[b"partitions ", &changed[..]].concat());
+        self.script.line(b"start");
+        self.letters = changed;
         self.announce_partitions(&letters);
     }
 

@@ -19,7 +19,9 @@ pub const FIRST_PERMISSION: usize = 10;
 
 impl Statement {
     fn new(tokens: &[&[u8]]) -> Statement {
-        Statement { tokens: tokens.iter().map(|token| token.to_vec()).collect() }
+        Statement {
+            tokens: tokens.iter().map(|token| token.to_vec()).collect(),
+        }
     }
 
     pub fn code(random: &mut Random, partition: usize, path: &[u8]) -> Statement {
@@ -47,7 +49,8 @@ impl Statement {
     ) -> Statement {
         let index = number(random, index);
         let host = number(random, segment.host);
-        let mut tokens: Vec<&[u8]> = vec![word, b"[", &index, b"]", b"=", b"{", subject, b",", &host];
+        let mut tokens: Vec<&[u8]> =
+            vec![word, b"[", &index, b"]", b"=", b"{", subject, b",", &host];
         for &permission in &segment.permissions {
             tokens.extend_from_slice(&[b",", permission.word()]);
         }

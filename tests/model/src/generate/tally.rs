@@ -90,13 +90,17 @@ impl Tally {
             self.bad_lines += 1;
             return;
         }
-        let Some(call) = CALLS.iter().position(|call| call.as_bytes() == word(line)) else { return };
+        let Some(call) = CALLS.iter().position(|call| call.as_bytes() == word(line)) else {
+            return;
+        };
         self.calls += 1;
         let number = std::str::from_utf8(answer).unwrap_or("").split(' ').nth(1);
         let number = number.and_then(|digits| digits.parse::<u16>().ok());
         match number.and_then(|number| NUMBERS.iter().position(|&known| known == number)) {
             Some(column) => self.counts[call][column] += 1,
-            None => self.strange.push(String::from_utf8_lossy(answer).into_owned()),
+            None => self
+                .strange
+                .push(String::from_utf8_lossy(answer).into_owned()),
         }
     }
 
@@ -120,7 +124,10 @@ impl Tally {
             for (column, &number) in NUMBERS.iter().enumerate() {
                 match (cells::can_arise(call, number), self.counts[row][column]) {
                     (true, 0) => missing.push(format!("{call} {number}")),
-                    (false, 1..) => wrong.push(format!("{call} {number}")),
+                    (false, 1..) => {
+                        let reason = cells::why_never(call, number).unwrap_or("no reason given");
+                        wrong.push(format!("{call} {number} ({reason})"));
+                    }
                     _ => {}
                 }
             }
@@ -130,7 +137,10 @@ impl Tally {
 
     /// The table, in two bands so that a line stays readable; a dot is a cell that cannot arise.
     pub fn table(&self) -> String {
-        let split = NUMBERS.iter().position(|&number| number >= 401).unwrap_or(NUMBERS.len());
+        let split = NUMBERS
+            .iter()
+            .position(|&number| number >= 401)
+            .unwrap_or(NUMBERS.len());
         [self.band(0..split), self.band(split..NUMBERS.len())].join("\n")
     }
 
@@ -167,4 +177,36 @@ pub fn grouped(number: u64) -> String {
         text.push(digit);
     }
     text
+}
+
+#[cfg(test)]
+mod tests {
+    use super::*;
+
+    #[test]
+    fn answers_are_laid_beside_their_lines() {
+        let text = b"# note\nlogout 0\n\nkey 4\nkey 41\nscreen 9\nstart";
+        let output = b"logout 216\nbad line 4\nscreen -\nstart 414 line 0\n";
+        let ranges = answers(text, output);
+        assert_eq!(ranges, [0..0, 0..1, 1..1, 1..2, 2..2, 2..3, 3..4]);
+        let mut tally = Tally::default();
+        tally.add_text(text, output);
+        assert_eq!((tally.lines, tally.calls, tally.bad_lines), (7, 2, 1));
+    }
+
+    #[test]
+    fn answers_that_cannot_be_are_named() {
+        let mut tally = Tally::default();
+        tally.add_text(b"logout 0\nlogout 0\n", b"logout 214\nlogout 999\n");
+        let (missing, wrong) = tally.faults();
+        assert!(missing.contains(&"logout 0".to_string()));
+        assert_eq!(wrong.len(), 2);
+    }
+
+    #[test]
+    fn numbers_are_grouped() {
+        assert_eq!(grouped(0), "0");
+        assert_eq!(grouped(999), "999");
+        assert_eq!(grouped(1_234_567), "1,234,567");
+    }
 }

@@ -1,0 +1,362 @@
+// The lines that speak to the terminal, by their first word. Each function knows a group of words and hands any other on to the next group.
+use super::account_lines;
+use super::device_lines;
+use super::kept;
+use super::look_lines;
+use super::memory_lines;
+use super::session::Run;
+use super::session::Session;
+use super::start_line;
+use super::stop_lines;
+use octets::parts;
+use octets::search;
+use replay_text::arguments;
+use replay_text::words;
+use terminal::Terminal;
+
+// `start`, `show` and `screen`; any other word is bad.
+fn starts_and_looks(
+    terminal: Terminal,
+    run: Run,
+    line: &[u8],
+    verb: &[u8],
+    text: &[u8],
+    store: &mut [u8],
+    arena: &mut [u8],
+    tables: &mut [u8],
+    screens: &mut [u8],
+    permissions: &mut [[u8; 8]; 32],
+    given: &mut [u8],
+    out: &mut [u8],
+) -> Session {
+    if search::same(verb, b"start") {
+        let read = arguments::read(b"", line, 6, given);
+        return start_line::start(
+            terminal,
+            run,
+            read,
+            text,
+            store,
+            arena,
+            tables,
+            screens,
+            permissions,
+            out,
+        );
+    }
+    if search::same(verb, b"show") {
+        let table = *permissions;
+        let read = arguments::read(b"", line, 5, given);
+        let said = look_lines::show(
+            terminal,
+            run,
+            read,
+            store,
+            arena,
+            tables,
+            screens,
+            table,
+            out,
+        );
+        return Session {
+            terminal,
+            run: said,
+        };
+    }
+    if search::same(verb, b"screen") {
+        let read = arguments::read(b"n", line, 7, given);
+        let said = look_lines::screen(terminal, run, read, screens, out);
+        return Session {
+            terminal,
+            run: said,
+        };
+    }
+    kept(terminal, run, out)
+}
+
+fn events(
+    terminal: Terminal,
+    run: Run,
+    line: &[u8],
+    verb: &[u8],
+    text: &[u8],
+    store: &mut [u8],
+    arena: &mut [u8],
+    tables: &mut [u8],
+    screens: &mut [u8],
+    permissions: &mut [[u8; 8]; 32],
+    given: &mut [u8],
+    out: &mut [u8],
+) -> Session {
+    if search::same(verb, b"key") {
+        let read = arguments::read(b"y", line, 4, given);
+        return stop_lines::key(terminal, run, read, out);
+    }
+    if search::same(verb, b"attention") {
+        let read = arguments::read(b"", line, 10, given);
+        return stop_lines::attention(terminal, run, read, out);
+    }
+    if search::same(verb, b"fault") {
+        let read = arguments::read(b"nns", line, 6, given);
+        return stop_lines::fault(terminal, run, read, out);
+    }
+    starts_and_looks(
+        terminal,
+        run,
+        line,
+        verb,
+        text,
+        store,
+        arena,
+        tables,
+        screens,
+        permissions,
+        given,
+        out,
+    )
+}
+
+fn stop_calls(
+    terminal: Terminal,
+    run: Run,
+    line: &[u8],
+    verb: &[u8],
+    text: &[u8],
+    store: &mut [u8],
+    arena: &mut [u8],
+    tables: &mut [u8],
+    screens: &mut [u8],
+    permissions: &mut [[u8; 8]; 32],
+    given: &mut [u8],
+    out: &mut [u8],
+) -> Session {
+    if search::same(verb, b"shutdown") {
+        let read = arguments::read(b"nb", line, 9, given);
+        return stop_lines::shutdown(terminal, run, read, given, screens, out);
+    }
+    if search::same(verb, b"powerdown") {
+        let read = arguments::read(b"n", line, 10, given);
+        return stop_lines::powerdown(terminal, run, read, screens, out);
+    }
+    events(
+        terminal,
+        run,
+        line,
+        verb,
+        text,
+        store,
+        arena,
+        tables,
+        screens,
+        permissions,
+        given,
+        out,
+    )
+}
+
+fn memory_calls(
+    terminal: Terminal,
+    run: Run,
+    line: &[u8],
+    verb: &[u8],
+    text: &[u8],
+    store: &mut [u8],
+    arena: &mut [u8],
+    tables: &mut [u8],
+    screens: &mut [u8],
+    permissions: &mut [[u8; 8]; 32],
+    lent: &mut [u8],
+    given: &mut [u8],
+    out: &mut [u8],
+) -> Session {
+    if search::same(verb, b"load") {
+        let table = *permissions;
+        let read = arguments::read(b"nnnl", line, 5, given);
+        let n = read.numbers;
+        let size = parts::least(n[3] as usize, lent.len());
+        return memory_lines::load(terminal, run, read, table, arena, &mut lent[0..size], out);
+    }
+    if search::same(verb, b"store") {
+        let table = *permissions;
+        let read = arguments::read(b"nnnb", line, 6, given);
+        return memory_lines::store(terminal, run, read, given, table, arena, out);
+    }
+    if search::same(verb, b"flush") {
+        let table = *permissions;
+        let read = arguments::read(b"nnn", line, 6, given);
+        return memory_lines::flush(terminal, run, read, table, arena, store, out);
+    }
+    if search::same(verb, b"configuration") {
+        let table = *permissions;
+        let read = arguments::read(b"nl", line, 14, given);
+        let n = read.numbers;
+        let size = parts::least(n[1] as usize, lent.len());
+        return memory_lines::configuration(
+            terminal,
+            run,
+            read,
+            table,
+            store,
+            &mut lent[0..size],
+            out,
+        );
+    }
+    stop_calls(
+        terminal,
+        run,
+        line,
+        verb,
+        text,
+        store,
+        arena,
+        tables,
+        screens,
+        permissions,
+        given,
+        out,
+    )
+}
+
+fn account_calls(
+    terminal: Terminal,
+    run: Run,
+    line: &[u8],
+    verb: &[u8],
+    text: &[u8],
+    store: &mut [u8],
+    arena: &mut [u8],
+    tables: &mut [u8],
+    screens: &mut [u8],
+    permissions: &mut [[u8; 8]; 32],
+    lent: &mut [u8],
+    given: &mut [u8],
+    out: &mut [u8],
+) -> Session {
+    if search::same(verb, b"login") {
+        let read = arguments::read(b"nbb", line, 6, given);
+        return account_lines::login(terminal, run, read, given, tables, out);
+    }
+    if search::same(verb, b"who") {
+        let read = arguments::read(b"nl", line, 4, given);
+        let n = read.numbers;
+        let size = parts::least(n[1] as usize, lent.len());
+        return account_lines::who(terminal, run, read, tables, &mut lent[0..size], out);
+    }
+    if search::same(verb, b"logout") {
+        let read = arguments::read(b"n", line, 7, given);
+        return account_lines::logout(terminal, run, read, out);
+    }
+    if search::same(verb, b"set_password") {
+        let read = arguments::read(b"nbn", line, 13, given);
+        return account_lines::set_password(terminal, run, read, given, store, tables, out);
+    }
+    memory_calls(
+        terminal,
+        run,
+        line,
+        verb,
+        text,
+        store,
+        arena,
+        tables,
+        screens,
+        permissions,
+        lent,
+        given,
+        out,
+    )
+}
+
+fn device_calls(
+    terminal: Terminal,
+    run: Run,
+    line: &[u8],
+    verb: &[u8],
+    text: &[u8],
+    store: &mut [u8],
+    arena: &mut [u8],
+    tables: &mut [u8],
+    screens: &mut [u8],
+    permissions: &mut [[u8; 8]; 32],
+    lent: &mut [u8],
+    given: &mut [u8],
+    out: &mut [u8],
+) -> Session {
+    if search::same(verb, b"read_next") {
+        let read = arguments::read(b"nnnnl", line, 10, given);
+        let n = read.numbers;
+        let size = parts::least(n[4] as usize, lent.len());
+        return device_lines::read_next(terminal, run, read, &mut lent[0..size], out);
+    }
+    if search::same(verb, b"read_random") {
+        let read = arguments::read(b"nnnnnl", line, 12, given);
+        let n = read.numbers;
+        let size = parts::least(n[5] as usize, lent.len());
+        return device_lines::read_random(terminal, run, read, screens, &mut lent[0..size], out);
+    }
+    if search::same(verb, b"write_next") {
+        let read = arguments::read(b"nnnnb", line, 11, given);
+        return device_lines::write_next(terminal, run, read, given, screens, out);
+    }
+    if search::same(verb, b"write_random") {
+        let read = arguments::read(b"nnnnnb", line, 13, given);
+        return device_lines::write_random(terminal, run, read, given, screens, out);
+    }
+    account_calls(
+        terminal,
+        run,
+        line,
+        verb,
+        text,
+        store,
+        arena,
+        tables,
+        screens,
+        permissions,
+        lent,
+        given,
+        out,
+    )
+}
+
+// Carries out a line that speaks to the terminal, unless the line is done. Each area is lent as long as it is said to be now.
+pub fn line(
+    terminal: Terminal,
+    run: Run,
+    gathered: &[u8],
+    text: &[u8],
+    store: &mut [u8],
+    arena: &mut [u8],
+    tables: &mut [u8],
+    screens: &mut [u8],
+    permissions: &mut [[u8; 8]; 32],
+    lent: &mut [u8],
+    given: &mut [u8],
+    out: &mut [u8],
+) -> Session {
+    if run.known {
+        return Session { terminal, run };
+    }
+    let line = parts::piece(gathered, 0, run.length);
+    let verb = parts::piece(line, 0, words::before(32, line, 0));
+    let lengths = run.lengths;
+    let b = parts::least(lengths.store, store.len());
+    let a = parts::least(lengths.arena, arena.len());
+    let t = parts::least(lengths.tables, tables.len());
+    let s = parts::least(lengths.screens, screens.len());
+    device_calls(
+        terminal,
+        run,
+        line,
+        verb,
+        parts::piece(text, 0, lengths.text),
+        &mut store[0..b],
+        &mut arena[0..a],
+        &mut tables[0..t],
+        &mut screens[0..s],
+        permissions,
+        lent,
+        given,
+        out,
+    )
+}
