@@ -150,7 +150,7 @@ fn put_row(
 }
 
 // Lays the entries one behind the other, and says how many they are. The array of segments is taken out of the plan once, and only a row's
-// segment and numbers are handed down: a plan or a table that is handed down is copied in every turn.
+// segment and numbers are handed down: a function that is handed the plan or the table copies that array, or the table, in every turn.
 fn put_entries(
     plan: Plan,
     permissions: [[u8; 8]; 32],
