@@ -1,23 +1,27 @@
 -- How what the code lays comes together: numbers one behind the other, the path behind an entry's numbers, one entry behind another, and the whole.
+use mathlib.Core.Bool.{Bool}
 use mathlib.Core.List.{List, [], _∷_, _++_, append-assoc}
 use mathlib.Core.Logic.{inl}
 use mathlib.Core.Path.{_≡_, refl, sym, _∙_}
-use Prim.Native.Nat.{ℕ, _+_, _*_, _%_, _≤_}
+use Prim.Native.Nat.{ℕ, _+_, _*_, _%_, _≤_, _<_}
 use native.Mathlib.Nat.{zero-add, suc-add, not-suc-le-zero, le-of-suc-le-suc}
 use native.Mathlib.Numerals.{add-one}
 use native.Mathlib.Omega.{arith}
 use borrow.Author.Tests.{eq-eqb, ne-eqb}
-use lib.ListN.{length, replicate, length-append, length-replicate}
+use lib.ListN.{length, getD, replicate, length-append, length-replicate}
 use lib.Seq.{take-at, drop-at}
+use Rattle.setup.specs.Values.{getD-any}
 use Rattle.octets.specs.Lists.{over, writeAt}
 use Rattle.octets.specs.Numbers.{spelled}
 use Rattle.octets.specs.NumberLaws.{length-spelled, spelled-mod}
 use Rattle.octets.specs.WriteLaws.{length-writeAt, writeAt-zero, writeAt-nil, writeAt-def, writeAt-append, writeAt-comm}
 use Rattle.state.specs.declared.Plan.{Plan}
-use Rattle.memory.specs.Rights.{rightOf}
-use Rattle.database.specs.Database.{filled, entry, entryOf, listed, entries, entryCount, header, database}
+use Rattle.state.specs.declared.Segment.{Segment}
+use Rattle.state.specs.Parts.{segmentAt}
+use Rattle.memory.specs.Rights.{declared, rightOf}
+use Rattle.database.specs.Database.{filled, entry, pathOf, entryOf, listed, entries, entryCount, header, database}
 use Rattle.database.specs.DatabaseLaws.{length-header, length-entries, count-most}
-use Rattle.database.specs.Row.{Row, Rows}
+use Rattle.database.specs.Row.{declaredIn, rightIn, entryIn, Laid, Row, Rows}
 
 -- ---- lists
 
@@ -90,17 +94,28 @@ size-cut kind selector size right path = rw (spelled-mod 4 size)
 
 -- ---- one row, and the rows before it
 
-module _ {plan : Plan} {permissions : List (List ℕ)} {store : List ℕ} {p : ℕ} where
-  pub row-none : (row count : ℕ) (old : List ℕ) → rightOf plan permissions row p ≡ 0 → Row plan permissions store p row count count old old
-  unfolding listed
-  row-none row count old e =
-      let none = eq-eqb (rightOf plan permissions row p) 0 e in
+module _ {segment : Segment} {store : List ℕ} where
+  pub row-none : (row count right : ℕ) (old : List ℕ) → right ≡ 0 → Laid segment right store row count count old old
+  row-none row count right old e =
+      let none = eq-eqb right 0 e in
       record { counted = rw none (omega arith); laid = rw none (sym (writeAt-nil (24 + 80 * count) old)) }
 
-  pub row-one : (row count right : ℕ) (old new : List ℕ) → right ≡ rightOf plan permissions row p → (right ≡ 0 → ⊥)
-      → new ≡ writeAt (24 + 80 * count) (entryOf plan store right row) old → Row plan permissions store p row count (count + 1) old new
-  unfolding listed
-  row-one row count right old new e h l = record { counted = rw (← e, ne-eqb right 0 h); laid = rw (← e, ne-eqb right 0 h) l }
+  pub row-one : (row count right : ℕ) (old new : List ℕ) → (right ≡ 0 → ⊥) → new ≡ writeAt (24 + 80 * count) (entryIn segment store right row) old
+      → Laid segment right store row count (count + 1) old new
+  row-one row count right old new h l = record { counted = rw (ne-eqb right 0 h); laid = rw (ne-eqb right 0 h) l }
+
+-- the right by the plan's two numbers and by a row of the table, read inside it
+pub right-read : (plan : Plan) (permissions : List (List ℕ)) (row p : ℕ) {known : Bool} {right : ℕ} → row < length permissions
+    → known ≡ declaredIn (plan .dsegs) (plan .msegs) row → right ≡ rightIn known (getD permissions row []) p → right ≡ rightOf plan permissions row p
+unfolding rightOf declared declaredIn rightIn
+right-read plan permissions row p h e f = rw (f, e, getD-any permissions row [] (replicate 8 0) h)
+
+module _ {plan : Plan} {permissions : List (List ℕ)} {store : List ℕ} {p : ℕ} where
+  -- what was laid by parts of the plan and of the table is the row's
+  pub row-laid : {segment : Segment} {right row count next : ℕ} {old new : List ℕ} → segment ≡ segmentAt plan row → right ≡ rightOf plan permissions row p
+      → Laid segment right store row count next old new → Row plan permissions store p row count next old new
+  unfolding listed entryOf pathOf entryIn
+  row-laid e f row = record { counted = rw (← f) (row .counted); laid = rw (← f, ← e) (row .laid) }
 
   pub rows-most : {n count : ℕ} {old new : List ℕ} → Rows plan permissions store p n count old new → count ≤ n
   rows-most {n} before = rw (before .counted) (count-most plan permissions p n)

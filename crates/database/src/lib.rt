@@ -1,21 +1,22 @@
 // The configuration database (document 01): what a partition is told of its devices and of the segments it has a right to.
 //
 // An entry is made by itself, and laid behind those before it.
-use memory::rights;
 use octets::numbers;
 use octets::parts;
 use state::Plan;
+use state::Segment;
 ghost use mathlib.Core.List.{_++_};
 ghost use mathlib.Core.Path.{_≡_};
 ghost use Prim.Native.Nat.{_<_};
-ghost use lib.ListN.{replicate};
+ghost use lib.ListN.{getD, replicate};
 ghost use Rattle.octets.specs.Lists.{over, writeAt};
 ghost use Rattle.octets.specs.Numbers.{spelled};
 ghost use Rattle.checks.specs.Told.{told};
-ghost use Rattle.database.specs.Database.{kindOf, selectorOf, entryOf, header, database};
+ghost use Rattle.memory.specs.Rights.{permission as Rights·permission};
+ghost use Rattle.database.specs.Database.{kindOf, selectorOf, header, database};
 ghost use Rattle.database.specs.Database.{entry as Database·entry};
 ghost use Rattle.database.specs.Database.{configuration as Database·configuration};
-ghost use Rattle.database.specs.Row.{Row, Rows};
+ghost use Rattle.database.specs.Row.{declaredIn, rightIn, entryIn, Laid, Rows};
 
 // Spells two numbers, one behind the other.
 fn put_two(to: &mut [u8], at: usize, a: u32, b: u32)
@@ -68,12 +69,53 @@ fn selector_of(row: u32) -> u32
     512 + (row - 16)
 }
 
-// The entry of a row's segment. A size is told by what four bytes hold of it.
-fn entry_of(plan: Plan, store: &[u8], right: u8, row: u32) -> [u8; 80]
-    requires { ⌜ row < 32 ⌝ }
-    ensures { λ r. ⌜ r ≡ entryOf plan (now (store .entry)) right row ⌝ }
+// Whether the plan has the segment of a row, by how many dsegs and msegs it has.
+fn declared(dsegs: usize, msegs: usize, row: u32) -> bool
+    ensures { λ r. ⌜ r ≡ declaredIn dsegs msegs row ⌝ }
 {
-    let segment = plan.segment(row as usize);
+    let wide = row as usize;
+    if wide < 16 {
+        return wide < dsegs;
+    }
+    wide - 16 < msegs
+}
+
+// A row's number for a partition; 0 where the row has none.
+fn number_in(numbers: [u8; 8], partition: u32) -> u8
+    ensures { λ r. ⌜ r ≡ getD numbers partition 0 ⌝ }
+{
+    let p = partition as usize;
+    if p < 8 {
+        return numbers[p];
+    }
+    0
+}
+
+// Any number but RO and RW counts as NA.
+fn permission(x: u8) -> u8
+    ensures { λ r. ⌜ r ≡ Rights·permission x ⌝ }
+{
+    if x <= 2 {
+        return x;
+    }
+    0
+}
+
+// What the numbers of a row give a partition, where the plan has the segment.
+fn right_in(known: bool, numbers: [u8; 8], partition: u32) -> u8
+    ensures { λ r. ⌜ r ≡ rightIn known numbers partition ⌝ }
+{
+    if known {
+        return permission(number_in(numbers, partition));
+    }
+    0
+}
+
+// The entry of a row's segment. A size is told by what four bytes hold of it.
+fn entry_of(segment: Segment, store: &[u8], right: u8, row: u32) -> [u8; 80]
+    requires { ⌜ row < 32 ⌝ }
+    ensures { λ r. ⌜ r ≡ entryIn segment (now (store .entry)) right row ⌝ }
+{
     let path = segment.path;
     let size = segment.memory.length % 4294967296;
     entry(
@@ -87,9 +129,8 @@ fn entry_of(plan: Plan, store: &[u8], right: u8, row: u32) -> [u8; 80]
 
 // Lays a row's entry behind `count` others, where the partition has a right to the segment, and says how many there are then.
 fn put_row(
-    plan: Plan,
-    permissions: [[u8; 8]; 32],
-    partition: u32,
+    segment: Segment,
+    right: u8,
     store: &[u8],
     buffer: &mut [u8],
     row: u32,
@@ -97,19 +138,19 @@ fn put_row(
 ) -> u32
     requires { ⌜ row < 32 ⌝ }
     requires { ⌜ count < 32 ⌝ }
-    ensures { λ r. ⌜ Row plan permissions (now (store .entry)) partition row count r (now (buffer .entry)) (now (buffer .exit)) ⌝ }
+    ensures { λ r. ⌜ Laid segment right (now (store .entry)) row count r (now (buffer .entry)) (now (buffer .exit)) ⌝ }
 {
-    let right = rights::right(plan, permissions, row as usize, partition);
     if right == 0 {
         return count;
     }
-    let made = entry_of(plan, store, right, row);
+    let made = entry_of(segment, store, right, row);
     let at = 24 + 80 * (count as usize);
     parts::lay(&made, buffer, at);
     count + 1
 }
 
-// Lays the entries one behind the other, and says how many they are.
+// Lays the entries one behind the other, and says how many they are. The array of segments is taken out of the plan once, and only a row's
+// segment and numbers are handed down: a function that is handed the plan or the table copies that array, or the table, in every turn.
 fn put_entries(
     plan: Plan,
     permissions: [[u8; 8]; 32],
@@ -119,10 +160,15 @@ fn put_entries(
 ) -> u32
     ensures { λ r. ⌜ Rows plan permissions (now (store .entry)) partition 32 r (now (buffer .entry)) (now (buffer .exit)) ⌝ }
 {
+    let segments = plan.segments;
     let mut count = 0;
     let mut row = 0;
     while row < 32 {
-        count = put_row(plan, permissions, partition, store, buffer, row, count);
+        let segment = segments[row as usize];
+        let numbers = permissions[row as usize];
+        let known = declared(plan.dsegs, plan.msegs, row);
+        let right = right_in(known, numbers, partition);
+        count = put_row(segment, right, store, buffer, row, count);
         row += 1;
     }
     count

@@ -1,12 +1,9 @@
 -- `database::entry_of` meets its contract, by what its callees ensure; a size counts modulo 2^32. Assumes nothing.
-use Rattle.database.specs.Database.{entryOf, pathOf}
+use Rattle.database.specs.Row.{entryIn}
 use Rattle.database.specs.LaidLaws.{size-cut}
 use borrow.Author.Needs.{needs}
 use Rattle.database.proofs.entry_of.Statement.{statement}
 use Rattle.database.proofs.entry_of.Tie as tie
-
-segment-requires : tie.Need-segment-requires
-segment-requires c κs = search needs
 
 kind-of-requires : tie.Need-kind-of-requires
 kind-of-requires c κs = search needs
@@ -24,14 +21,13 @@ entry-requires : tie.Need-entry-requires
 entry-requires c κs = search needs
 
 returns : tie.Need-returns
-unfolding entryOf pathOf
+unfolding entryIn
 returns c =
     rw (
       c .entry .ensures,
       c .before .piece .ensures,
       c .before .before .selector-of .ensures,
       c .before .before .before .kind-of .ensures,
-      c .before .before .before .before .before .before .segment .ensures,
       size-cut,
     )
 
@@ -39,7 +35,6 @@ pub entry-of-spec : {M : Type 1} → statement M
 entry-of-spec =
     tie.close
     (tie.spec
-    segment-requires
     kind-of-requires
     selector-of-requires
     cast-entry

@@ -1,17 +1,13 @@
 -- `database::put_row` meets its contract: a row without a right adds nothing, another one entry. Assumes nothing.
-use mathlib.Core.Path.{sym, _∙_}
 use Rattle.database.specs.LaidLaws.{row-none, row-one}
 use borrow.Author.Needs.{needs}
 use Rattle.database.proofs.put_row.Statement.{statement}
 use Rattle.database.proofs.put_row.Tie as tie
 
-right-requires : tie.Need-right-requires
-right-requires c κs = search needs
-
 returns : tie.Need-returns
 returns c =
-    let args = c .before .before .before .before .args in
-    row-none (args .row) (args .count) (args .buffer .now) (sym (c .before .right .ensures) ∙ c .if1 .taken)
+    let args = c .before .before .before .args in
+    row-none (args .row) (args .count) (args .right) (args .buffer .now) (c .if1 .taken)
 
 entry-of-requires : tie.Need-entry-of-requires
 entry-of-requires c κs = search needs
@@ -36,18 +32,16 @@ same-length c = search needs
 
 returns-2 : tie.Need-returns-2
 returns-2 c =
-    let args = c .before .before .before .before .before .before .before .before .before .before .args in
-    let right = c .before .before .before .before .before .before .before .right in
+    let args = c .before .before .before .before .before .before .before .before .before .args in
     let entry = c .before .before .before .before .before .entry-of in
     let lay = c .before .before .lay in
-    row-one (args .row) (args .count) (right .result) (args .buffer .now) (lay .last .1 .0) (right .ensures)
+    row-one (args .row) (args .count) (args .right) (args .buffer .now) (lay .last .1 .0)
     (c .before .before .before .before .before .before .if1 .left) (rw (entry .ensures) at (lay .ensures))
 
 pub put-row-spec : {M : Type 1} → statement M
 put-row-spec =
     tie.close
     (tie.spec
-    right-requires
     returns
     entry-of-requires
     mul-at
