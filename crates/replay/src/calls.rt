@@ -1,4 +1,4 @@
-// The lines that speak to the terminal, by their first word. Each function knows a group of words and hands any other on to the next group.
+// The lines that speak to the terminal, by their first word. Each function knows two words and hands any other on to the next one.
 use super::account_lines;
 use super::device_lines;
 use super::kept;
@@ -14,36 +14,39 @@ use replay_text::arguments;
 use replay_text::words;
 use terminal::Terminal;
 
-// `start`, `show` and `screen`; any other word is bad.
-fn starts_and_looks(
+// Any other word is bad.
+fn key_events(
     terminal: Terminal,
     run: Run,
     line: &[u8],
     verb: &[u8],
-    text: &[u8],
-    store: &mut [u8],
-    arena: &mut [u8],
-    tables: &mut [u8],
-    screens: &mut [u8],
+    given: &mut [u8],
+    out: &mut [u8],
+) -> Session {
+    if search::same(verb, b"key") {
+        let read = arguments::read(b"y", line, 4, given);
+        return stop_lines::key(terminal, run, read, out);
+    }
+    if search::same(verb, b"attention") {
+        let read = arguments::read(b"", line, 10, given);
+        return stop_lines::attention(terminal, run, read, out);
+    }
+    kept(terminal, run, out)
+}
+
+fn looks(
+    terminal: Terminal,
+    run: Run,
+    line: &[u8],
+    verb: &[u8],
+    store: &[u8],
+    arena: &[u8],
+    tables: &[u8],
+    screens: &[u8],
     permissions: &mut [[u8; 8]; 32],
     given: &mut [u8],
     out: &mut [u8],
 ) -> Session {
-    if search::same(verb, b"start") {
-        let read = arguments::read(b"", line, 6, given);
-        return start_line::start(
-            terminal,
-            run,
-            read,
-            text,
-            store,
-            arena,
-            tables,
-            screens,
-            permissions,
-            out,
-        );
-    }
     if search::same(verb, b"show") {
         let table = *permissions;
         let read = arguments::read(b"", line, 5, given);
@@ -71,49 +74,7 @@ fn starts_and_looks(
             run: said,
         };
     }
-    kept(terminal, run, out)
-}
-
-fn events(
-    terminal: Terminal,
-    run: Run,
-    line: &[u8],
-    verb: &[u8],
-    text: &[u8],
-    store: &mut [u8],
-    arena: &mut [u8],
-    tables: &mut [u8],
-    screens: &mut [u8],
-    permissions: &mut [[u8; 8]; 32],
-    given: &mut [u8],
-    out: &mut [u8],
-) -> Session {
-    if search::same(verb, b"key") {
-        let read = arguments::read(b"y", line, 4, given);
-        return stop_lines::key(terminal, run, read, out);
-    }
-    if search::same(verb, b"attention") {
-        let read = arguments::read(b"", line, 10, given);
-        return stop_lines::attention(terminal, run, read, out);
-    }
-    if search::same(verb, b"fault") {
-        let read = arguments::read(b"nns", line, 6, given);
-        return stop_lines::fault(terminal, run, read, out);
-    }
-    starts_and_looks(
-        terminal,
-        run,
-        line,
-        verb,
-        text,
-        store,
-        arena,
-        tables,
-        screens,
-        permissions,
-        given,
-        out,
-    )
+    key_events(terminal, run, line, verb, given, out)
 }
 
 fn stop_calls(
@@ -121,10 +82,9 @@ fn stop_calls(
     run: Run,
     line: &[u8],
     verb: &[u8],
-    text: &[u8],
-    store: &mut [u8],
-    arena: &mut [u8],
-    tables: &mut [u8],
+    store: &[u8],
+    arena: &[u8],
+    tables: &[u8],
     screens: &mut [u8],
     permissions: &mut [[u8; 8]; 32],
     given: &mut [u8],
@@ -138,7 +98,105 @@ fn stop_calls(
         let read = arguments::read(b"n", line, 10, given);
         return stop_lines::powerdown(terminal, run, read, screens, out);
     }
-    events(
+    looks(
+        terminal,
+        run,
+        line,
+        verb,
+        store,
+        arena,
+        tables,
+        screens,
+        permissions,
+        given,
+        out,
+    )
+}
+
+fn starts_and_faults(
+    terminal: Terminal,
+    run: Run,
+    line: &[u8],
+    verb: &[u8],
+    text: &[u8],
+    store: &[u8],
+    arena: &mut [u8],
+    tables: &mut [u8],
+    screens: &mut [u8],
+    permissions: &mut [[u8; 8]; 32],
+    given: &mut [u8],
+    out: &mut [u8],
+) -> Session {
+    if search::same(verb, b"start") {
+        let read = arguments::read(b"", line, 6, given);
+        return start_line::start(
+            terminal,
+            run,
+            read,
+            text,
+            store,
+            arena,
+            tables,
+            screens,
+            permissions,
+            out,
+        );
+    }
+    if search::same(verb, b"fault") {
+        let read = arguments::read(b"nns", line, 6, given);
+        return stop_lines::fault(terminal, run, read, out);
+    }
+    stop_calls(
+        terminal,
+        run,
+        line,
+        verb,
+        store,
+        arena,
+        tables,
+        screens,
+        permissions,
+        given,
+        out,
+    )
+}
+
+fn store_calls(
+    terminal: Terminal,
+    run: Run,
+    line: &[u8],
+    verb: &[u8],
+    text: &[u8],
+    store: &mut [u8],
+    arena: &mut [u8],
+    tables: &mut [u8],
+    screens: &mut [u8],
+    permissions: &mut [[u8; 8]; 32],
+    lent: &mut [u8],
+    given: &mut [u8],
+    out: &mut [u8],
+) -> Session {
+    if search::same(verb, b"flush") {
+        let table = *permissions;
+        let read = arguments::read(b"nnn", line, 6, given);
+        return memory_lines::flush(terminal, run, read, table, arena, store, out);
+    }
+    if search::same(verb, b"configuration") {
+        let table = *permissions;
+        let read = arguments::read(b"nl", line, 14, given);
+        let n = read.numbers;
+        let size = parts::least(n[1] as usize, lent.len());
+        return memory_lines::configuration(
+            terminal,
+            run,
+            read,
+            table,
+            store,
+            &mut lent[0..size],
+            out,
+        );
+    }
+    starts_and_faults(
         terminal,
         run,
         line,
@@ -154,7 +212,7 @@ fn stop_calls(
     )
 }
 
-fn memory_calls(
+fn segment_calls(
     terminal: Terminal,
     run: Run,
     line: &[u8],
@@ -181,27 +239,7 @@ fn memory_calls(
         let read = arguments::read(b"nnnb", line, 6, given);
         return memory_lines::store(terminal, run, read, given, table, arena, out);
     }
-    if search::same(verb, b"flush") {
-        let table = *permissions;
-        let read = arguments::read(b"nnn", line, 6, given);
-        return memory_lines::flush(terminal, run, read, table, arena, store, out);
-    }
-    if search::same(verb, b"configuration") {
-        let table = *permissions;
-        let read = arguments::read(b"nl", line, 14, given);
-        let n = read.numbers;
-        let size = parts::least(n[1] as usize, lent.len());
-        return memory_lines::configuration(
-            terminal,
-            run,
-            read,
-            table,
-            store,
-            &mut lent[0..size],
-            out,
-        );
-    }
-    stop_calls(
+    store_calls(
         terminal,
         run,
         line,
@@ -212,12 +250,53 @@ fn memory_calls(
         tables,
         screens,
         permissions,
+        lent,
         given,
         out,
     )
 }
 
-fn account_calls(
+fn password_calls(
+    terminal: Terminal,
+    run: Run,
+    line: &[u8],
+    verb: &[u8],
+    text: &[u8],
+    store: &mut [u8],
+    arena: &mut [u8],
+    tables: &mut [u8],
+    screens: &mut [u8],
+    permissions: &mut [[u8; 8]; 32],
+    lent: &mut [u8],
+    given: &mut [u8],
+    out: &mut [u8],
+) -> Session {
+    if search::same(verb, b"logout") {
+        let read = arguments::read(b"n", line, 7, given);
+        return account_lines::logout(terminal, run, read, out);
+    }
+    if search::same(verb, b"set_password") {
+        let read = arguments::read(b"nbn", line, 13, given);
+        return account_lines::set_password(terminal, run, read, given, store, tables, out);
+    }
+    segment_calls(
+        terminal,
+        run,
+        line,
+        verb,
+        text,
+        store,
+        arena,
+        tables,
+        screens,
+        permissions,
+        lent,
+        given,
+        out,
+    )
+}
+
+fn login_calls(
     terminal: Terminal,
     run: Run,
     line: &[u8],
@@ -242,15 +321,7 @@ fn account_calls(
         let size = parts::least(n[1] as usize, lent.len());
         return account_lines::who(terminal, run, read, tables, &mut lent[0..size], out);
     }
-    if search::same(verb, b"logout") {
-        let read = arguments::read(b"n", line, 7, given);
-        return account_lines::logout(terminal, run, read, out);
-    }
-    if search::same(verb, b"set_password") {
-        let read = arguments::read(b"nbn", line, 13, given);
-        return account_lines::set_password(terminal, run, read, given, store, tables, out);
-    }
-    memory_calls(
+    password_calls(
         terminal,
         run,
         line,
@@ -267,7 +338,49 @@ fn account_calls(
     )
 }
 
-fn device_calls(
+fn random_calls(
+    terminal: Terminal,
+    run: Run,
+    line: &[u8],
+    verb: &[u8],
+    text: &[u8],
+    store: &mut [u8],
+    arena: &mut [u8],
+    tables: &mut [u8],
+    screens: &mut [u8],
+    permissions: &mut [[u8; 8]; 32],
+    lent: &mut [u8],
+    given: &mut [u8],
+    out: &mut [u8],
+) -> Session {
+    if search::same(verb, b"read_random") {
+        let read = arguments::read(b"nnnnnl", line, 12, given);
+        let n = read.numbers;
+        let size = parts::least(n[5] as usize, lent.len());
+        return device_lines::read_random(terminal, run, read, screens, &mut lent[0..size], out);
+    }
+    if search::same(verb, b"write_random") {
+        let read = arguments::read(b"nnnnnb", line, 13, given);
+        return device_lines::write_random(terminal, run, read, given, screens, out);
+    }
+    login_calls(
+        terminal,
+        run,
+        line,
+        verb,
+        text,
+        store,
+        arena,
+        tables,
+        screens,
+        permissions,
+        lent,
+        given,
+        out,
+    )
+}
+
+fn next_calls(
     terminal: Terminal,
     run: Run,
     line: &[u8],
@@ -288,21 +401,11 @@ fn device_calls(
         let size = parts::least(n[4] as usize, lent.len());
         return device_lines::read_next(terminal, run, read, &mut lent[0..size], out);
     }
-    if search::same(verb, b"read_random") {
-        let read = arguments::read(b"nnnnnl", line, 12, given);
-        let n = read.numbers;
-        let size = parts::least(n[5] as usize, lent.len());
-        return device_lines::read_random(terminal, run, read, screens, &mut lent[0..size], out);
-    }
     if search::same(verb, b"write_next") {
         let read = arguments::read(b"nnnnb", line, 11, given);
         return device_lines::write_next(terminal, run, read, given, screens, out);
     }
-    if search::same(verb, b"write_random") {
-        let read = arguments::read(b"nnnnnb", line, 13, given);
-        return device_lines::write_random(terminal, run, read, given, screens, out);
-    }
-    account_calls(
+    random_calls(
         terminal,
         run,
         line,
@@ -344,7 +447,7 @@ pub fn line(
     let a = parts::least(lengths.arena, arena.len());
     let t = parts::least(lengths.tables, tables.len());
     let s = parts::least(lengths.screens, screens.len());
-    device_calls(
+    next_calls(
         terminal,
         run,
         line,

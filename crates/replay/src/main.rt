@@ -67,13 +67,15 @@ fn gathered(run: Run, part: &[u8], line: &mut [u8]) -> Run {
     run.with_held(parts::sum(run.held, part.len(), usize::MAX))
 }
 
-// Takes what there is of a line out of the input that was read; `whole` says whether the line is complete with it.
+// Takes what there is of a line out of the input that was read; `whole` says whether the line is complete with it. Behind the
+// input's end what is held is the last line.
 fn taken(run: Run, input: &[u8], line: &mut [u8]) -> Run {
     let rest = parts::piece(parts::piece(input, 0, run.end), run.at, run.end);
     let length = words::before(10, rest, 0);
     let behind = parts::sum(parts::sum(run.at, length, usize::MAX), 1, usize::MAX);
     let next = run.with_input(behind, run.end)
-        .with_whole(length < rest.len());
+        .with_whole((length < rest.len()) | (run.end == 0))
+        .with_done(run.end == 0);
     gathered(next, parts::piece(rest, 0, length), line)
 }
 
@@ -107,11 +109,12 @@ fn main() {
     let mut given = [0u8; 8192];
     let mut out = [0u8; 65536];
     let mut terminal = Terminal::new();
-    let mut run = refilled(Run::new(), &mut input, &out);
+    let mut run = Run::new();
     let mut turns = u64::MAX;
-    while 0 < turns && 0 < run.end {
+    while 0 < turns && !run.done {
         turns -= 1;
-        let more = taken(run, &input, &mut line);
+        let filled = refilled(run, &mut input, &out);
+        let more = taken(filled, &input, &mut line);
         let next = counted(more, &line, &mut out);
         let set = settings::line(
             next,
@@ -139,34 +142,7 @@ fn main() {
             &mut out,
         );
         terminal = session.terminal;
-        let spare = spared(session.run, &out);
-        run = refilled(spare, &mut input, &out);
+        run = spared(session.run, &out);
     }
-    let last = counted(run.with_whole(true), &line, &mut out);
-    let set = settings::line(
-        last,
-        &line,
-        &mut text,
-        &mut store,
-        &mut arena,
-        &mut tables,
-        &mut screens,
-        &mut given,
-        &mut out,
-    );
-    let session = calls::line(
-        terminal,
-        set,
-        &line,
-        &text,
-        &mut store,
-        &mut arena,
-        &mut tables,
-        &mut screens,
-        &mut permissions,
-        &mut lent,
-        &mut given,
-        &mut out,
-    );
-    flushed(session.run, &out);
+    flushed(run, &out);
 }

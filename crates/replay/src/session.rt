@@ -13,7 +13,8 @@ pub struct Lengths {
 }
 
 // What the next start is given, and whether one was accepted; `line` counts the lines, `held` the bytes of the line that is being read, `length` those of the last
-// one and `whole` whether it is complete, `known` whether it has been carried out, `said` the bytes of output that wait; what is left of the input that was read stands from `at` to `end`.
+// one and `whole` whether it is complete, `known` whether it has been carried out, `said` the bytes of output that wait; what is left of the input that was read stands from `at` to `end`,
+// and `done` says that its end was met.
 pub struct Run {
     pub accepted: bool,
     pub count: u32,
@@ -28,6 +29,7 @@ pub struct Run {
     pub said: usize,
     pub at: usize,
     pub end: usize,
+    pub done: bool,
 }
 
 // What a line leaves.
@@ -61,6 +63,7 @@ impl Run {
             said: 0,
             at: 0,
             end: 0,
+            done: false,
         }
     }
 
@@ -96,6 +99,11 @@ impl Run {
 
     pub fn with_held(mut self, held: usize) -> Self {
         self.held = held;
+        self
+    }
+
+    pub fn with_done(mut self, done: bool) -> Self {
+        self.done = done;
         self
     }
 

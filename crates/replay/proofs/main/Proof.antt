@@ -12,7 +12,6 @@ use Rattle.replay.proofs.counted.Reads as counted-reads
 use Rattle.replay.proofs.flushed.Reads as flushed-reads
 use Rattle.replay.proofs.refilled.Reads as refilled-reads
 use Rattle.replay.proofs.session.Run.new.Reads as session-Run-new-reads
-use Rattle.replay.proofs.session.Run.with_whole.Reads as with-whole-reads
 use Rattle.replay.proofs.settings.line.Reads as settings-line-reads
 use Rattle.replay.proofs.spared.Reads as spared-reads
 use Rattle.replay.proofs.taken.Reads as taken-reads
@@ -26,263 +25,159 @@ abbrev μ-loop : tie.MeasureT-loop
 μ-loop input₀ line₀ text₀ store₀ arena₀ tables₀ screens₀ permissions₀ lent₀ given₀ out₀ terminal₀ run₀ turns₀ input line text store arena tables screens permissions lent given out terminal run turns =
     turns
 
--- src/main.rt:109:9
+-- src/main.rt:111:9
 new-requires : tie.Need-new-requires Inv-loop μ-loop
 new-requires c κs = search needs
 
--- src/main.rt:110:28
+-- src/main.rt:112:9
 new-requires-2 : tie.Need-new-requires-2 Inv-loop μ-loop
 new-requires-2 c κs = search needs
 
--- src/main.rt:110:40
-slice-aggregate-refilled : tie.Need-slice-aggregate-refilled Inv-loop μ-loop
-slice-aggregate-refilled c = search needs
-
--- src/main.rt:110:52
-slice-aggregate-refilled-2 : tie.Need-slice-aggregate-refilled-2 Inv-loop μ-loop
-slice-aggregate-refilled-2 c = search needs
-
--- src/main.rt:110:9
-refilled-requires : tie.Need-refilled-requires Inv-loop μ-loop
-refilled-requires c κs = search needs
-
--- src/main.rt:112:5
+-- src/main.rt:114:5
 loop-holds : tie.Need-loop-holds Inv-loop μ-loop
 loop-holds c = (search needs, search needs, search needs, search needs, search needs, search needs, search needs, search needs, search needs, search needs)
 
--- src/main.rt:113:9
+-- src/main.rt:115:9
 sub-turns : tie.Need-sub-turns Inv-loop μ-loop
 sub-turns c = omega arith
 
--- src/main.rt:114:31
+-- src/main.rt:116:36
+slice-aggregate-refilled : tie.Need-slice-aggregate-refilled Inv-loop μ-loop
+slice-aggregate-refilled c = search needs
+
+-- src/main.rt:116:48
+slice-aggregate-refilled-2 : tie.Need-slice-aggregate-refilled-2 Inv-loop μ-loop
+slice-aggregate-refilled-2 c = search needs
+
+-- src/main.rt:116:13
+refilled-requires : tie.Need-refilled-requires Inv-loop μ-loop
+refilled-requires c κs = search needs
+
+-- src/main.rt:117:34
 slice-aggregate-taken : tie.Need-slice-aggregate-taken Inv-loop μ-loop
 slice-aggregate-taken c = search needs
 
--- src/main.rt:114:39
+-- src/main.rt:117:42
 slice-aggregate-taken-2 : tie.Need-slice-aggregate-taken-2 Inv-loop μ-loop
 slice-aggregate-taken-2 c = search needs
 
--- src/main.rt:114:13
+-- src/main.rt:117:13
 taken-requires : tie.Need-taken-requires Inv-loop μ-loop
 taken-requires c κs = search needs
 
--- src/main.rt:115:34
+-- src/main.rt:118:34
 slice-aggregate-counted : tie.Need-slice-aggregate-counted Inv-loop μ-loop
 slice-aggregate-counted c = search needs
 
--- src/main.rt:115:41
+-- src/main.rt:118:41
 slice-aggregate-counted-2 : tie.Need-slice-aggregate-counted-2 Inv-loop μ-loop
 slice-aggregate-counted-2 c = search needs
 
--- src/main.rt:115:13
+-- src/main.rt:118:13
 counted-requires : tie.Need-counted-requires Inv-loop μ-loop
 counted-requires c κs = search needs
 
--- src/main.rt:118:13
+-- src/main.rt:121:13
 slice-aggregate-line : tie.Need-slice-aggregate-line Inv-loop μ-loop
 slice-aggregate-line c = search needs
 
--- src/main.rt:119:13
-slice-aggregate-line-2 : tie.Need-slice-aggregate-line-2 Inv-loop μ-loop
-slice-aggregate-line-2 c = search needs
-
--- src/main.rt:120:13
-slice-aggregate-line-3 : tie.Need-slice-aggregate-line-3 Inv-loop μ-loop
-slice-aggregate-line-3 c = search needs
-
--- src/main.rt:121:13
-slice-aggregate-line-4 : tie.Need-slice-aggregate-line-4 Inv-loop μ-loop
-slice-aggregate-line-4 c = search needs
-
 -- src/main.rt:122:13
-slice-aggregate-line-5 : tie.Need-slice-aggregate-line-5 Inv-loop μ-loop
-slice-aggregate-line-5 c = search needs
+slice-aggregate-line-2 : tie.Need-slice-aggregate-line-2 Inv-loop μ-loop
+slice-aggregate-line-2 c = sym (c .before .before .before .before .before .before .before .before .before .before .before .before .before .before .before .before .before .loop .inv .2)
 
 -- src/main.rt:123:13
-slice-aggregate-line-6 : tie.Need-slice-aggregate-line-6 Inv-loop μ-loop
-slice-aggregate-line-6 c = search needs
+slice-aggregate-line-3 : tie.Need-slice-aggregate-line-3 Inv-loop μ-loop
+slice-aggregate-line-3 c = sym (c .before .before .before .before .before .before .before .before .before .before .before .before .before .before .before .before .before .before .loop .inv .3)
 
 -- src/main.rt:124:13
-slice-aggregate-line-7 : tie.Need-slice-aggregate-line-7 Inv-loop μ-loop
-slice-aggregate-line-7 c = search needs
+slice-aggregate-line-4 : tie.Need-slice-aggregate-line-4 Inv-loop μ-loop
+slice-aggregate-line-4 c = sym (c .before .before .before .before .before .before .before .before .before .before .before .before .before .before .before .before .before .before .before .loop .inv .4)
 
 -- src/main.rt:125:13
+slice-aggregate-line-5 : tie.Need-slice-aggregate-line-5 Inv-loop μ-loop
+slice-aggregate-line-5 c = sym (c .before .before .before .before .before .before .before .before .before .before .before .before .before .before .before .before .before .before .before .before .loop .inv .5)
+
+-- src/main.rt:126:13
+slice-aggregate-line-6 : tie.Need-slice-aggregate-line-6 Inv-loop μ-loop
+slice-aggregate-line-6 c = sym (c .before .before .before .before .before .before .before .before .before .before .before .before .before .before .before .before .before .before .before .before .before .loop .inv .6)
+
+-- src/main.rt:127:13
+slice-aggregate-line-7 : tie.Need-slice-aggregate-line-7 Inv-loop μ-loop
+slice-aggregate-line-7 c = sym (c .before .before .before .before .before .before .before .before .before .before .before .before .before .before .before .before .before .before .before .before .before .before .loop .inv .8)
+
+-- src/main.rt:128:13
 slice-aggregate-line-8 : tie.Need-slice-aggregate-line-8 Inv-loop μ-loop
 slice-aggregate-line-8 c = search needs
 
--- src/main.rt:116:13
+-- src/main.rt:119:13
 line-requires : tie.Need-line-requires Inv-loop μ-loop
 line-requires c κs = search needs
 
--- src/main.rt:130:13
+-- src/main.rt:133:13
 slice-aggregate-line-9 : tie.Need-slice-aggregate-line-9 Inv-loop μ-loop
 slice-aggregate-line-9 c = search needs
 
--- src/main.rt:131:13
+-- src/main.rt:134:13
 slice-aggregate-line-10 : tie.Need-slice-aggregate-line-10 Inv-loop μ-loop
 slice-aggregate-line-10 c = search needs
 
--- src/main.rt:132:13
+-- src/main.rt:135:13
 slice-aggregate-line-11 : tie.Need-slice-aggregate-line-11 Inv-loop μ-loop
 slice-aggregate-line-11 c = search needs
 
--- src/main.rt:133:13
+-- src/main.rt:136:13
 slice-aggregate-line-12 : tie.Need-slice-aggregate-line-12 Inv-loop μ-loop
 slice-aggregate-line-12 c = search needs
 
--- src/main.rt:134:13
+-- src/main.rt:137:13
 slice-aggregate-line-13 : tie.Need-slice-aggregate-line-13 Inv-loop μ-loop
 slice-aggregate-line-13 c = search needs
 
--- src/main.rt:135:13
+-- src/main.rt:138:13
 slice-aggregate-line-14 : tie.Need-slice-aggregate-line-14 Inv-loop μ-loop
 slice-aggregate-line-14 c = search needs
 
--- src/main.rt:137:13
+-- src/main.rt:140:13
 slice-aggregate-line-15 : tie.Need-slice-aggregate-line-15 Inv-loop μ-loop
-slice-aggregate-line-15 c = search (needs, c .before .before .before .before .before .before .before .before .before .before .before .before .before .before .before .before .before .before .before .before .before .before .before .before .before .before .before .before .before .before .before .before .before .before .before .loop .inv .7)
+slice-aggregate-line-15 c = sym (c .before .before .before .before .before .before .before .before .before .before .before .before .before .before .before .before .before .before .before .before .before .before .before .before .before .before .before .before .before .before .before .before .before .before .before .before .before .before .before .loop .inv .7)
 
--- src/main.rt:138:13
+-- src/main.rt:141:13
 slice-aggregate-line-16 : tie.Need-slice-aggregate-line-16 Inv-loop μ-loop
 slice-aggregate-line-16 c = search needs
 
--- src/main.rt:139:13
+-- src/main.rt:142:13
 slice-aggregate-line-17 : tie.Need-slice-aggregate-line-17 Inv-loop μ-loop
 slice-aggregate-line-17 c = search needs
 
--- src/main.rt:127:13
+-- src/main.rt:130:13
 line-requires-2 : tie.Need-line-requires-2 Inv-loop μ-loop
 line-requires-2 c κs = search needs
 
--- src/main.rt:142:41
+-- src/main.rt:145:35
 slice-aggregate-spared : tie.Need-slice-aggregate-spared Inv-loop μ-loop
 slice-aggregate-spared c = search needs
 
--- src/main.rt:142:13
+-- src/main.rt:145:9
 spared-requires : tie.Need-spared-requires Inv-loop μ-loop
 spared-requires c κs = search needs
 
--- src/main.rt:143:31
-slice-aggregate-refilled-3 : tie.Need-slice-aggregate-refilled-3 Inv-loop μ-loop
-slice-aggregate-refilled-3 c = search (needs, c .before .before .before .before .before .before .before .before .before .before .before .before .before .before .before .before .before .before .before .before .before .before .before .before .before .before .before .before .before .before .before .before .before .before .before .before .before .before .before .before .before .before .before .before .before .before .before .before .before .loop .inv .0)
-
--- src/main.rt:143:43
-slice-aggregate-refilled-4 : tie.Need-slice-aggregate-refilled-4 Inv-loop μ-loop
-slice-aggregate-refilled-4 c = search needs
-
--- src/main.rt:143:9
-refilled-requires-2 : tie.Need-refilled-requires-2 Inv-loop μ-loop
-refilled-requires-2 c κs = search needs
-
--- src/main.rt:112:5
+-- src/main.rt:114:5
 loop-less : tie.Need-loop-less Inv-loop μ-loop
 loop-less c = omega (arith, c .before .before .before .before .before .before .before .before .before .before .before .before .before .before .before .before .before .before .before .before .before .before .before .before .before .before .before .before .before .before .before .before .before .before .before .before .before .before .before .before .before .before .before .before .before .before .before .before .before .before .before .loop-test .taken)
 
--- src/main.rt:112:5
+-- src/main.rt:114:5
 loop-again : tie.Need-loop-again Inv-loop μ-loop
-loop-again c = (search needs, search (needs, c .before .before .before .before .before .before .before .before .before .before .before .before .before .before .before .before .before .before .before .before .before .before .before .before .before .before .before .before .before .before .before .before .before .before .before .before .before .before .before .before .before .before .before .before .before .before .before .before .before .before .before .before .loop .inv .1, c .before .before .before .before .before .before .before .before .before .before .before .before .before .before .before .before .before .before .before .before .before .before .before .before .before .before .before .before .before .before .before .before .before .before .before .before .before .before .before .before .before .before .before .before .before .line2 .given), search (needs, c .before .before .before .before .before .before .before .before .before .before .before .before .before .before .before .before .before .before .before .before .before .before .before .before .before .before .before .before .before .before .before .before .before .before .before .before .before .before .before .before .before .before .before .before .before .before .before .before .before .before .before .before .loop .inv .2, c .before .before .before .before .before .before .before .before .before .before .before .before .before .before .before .before .before .before .before .before .before .before .before .before .before .before .before .before .before .before .before .text2 .given), search needs, search needs, search needs, search needs, search needs, search needs, search needs)
+loop-again c = (search (needs, c .before .before .before .before .before .before .before .before .before .before .before .before .before .before .before .before .before .before .before .before .before .before .before .before .before .before .before .before .before .before .before .before .before .before .before .before .before .before .before .before .before .before .before .before .before .before .before .before .before .before .before .before .loop .inv .0, c .before .before .before .before .before .before .before .before .before .before .before .before .before .before .before .before .before .before .before .before .before .before .before .before .before .before .before .before .before .before .before .before .before .before .before .before .before .before .before .before .before .before .before .before .before .input2 .given), search (needs, c .before .before .before .before .before .before .before .before .before .before .before .before .before .before .before .before .before .before .before .before .before .before .before .before .before .before .before .before .before .before .before .before .before .before .before .before .before .before .before .before .before .before .before .before .before .before .before .before .before .before .before .before .loop .inv .1, c .before .before .before .before .before .before .before .before .before .before .before .before .before .before .before .before .before .before .before .before .before .before .before .before .before .before .before .before .before .before .before .before .before .before .before .before .before .before .before .before .before .line2 .given), search (needs, c .before .before .before .before .before .before .before .before .before .before .before .before .before .before .before .before .before .before .before .before .before .before .before .before .before .before .before .before .before .before .before .before .before .before .before .before .before .before .before .before .before .before .before .before .before .before .before .before .before .before .before .before .loop .inv .2, c .before .before .before .before .before .before .before .before .before .before .before .before .before .before .before .before .before .before .before .before .before .before .before .before .before .before .before .text2 .given), search needs, search needs, search needs, search needs, search needs, search needs, search needs)
 
--- src/main.rt:145:24
-with-whole-requires : tie.Need-with-whole-requires Inv-loop μ-loop
-with-whole-requires c κs = search needs
-
--- src/main.rt:145:46
-slice-aggregate-counted-3 : tie.Need-slice-aggregate-counted-3 Inv-loop μ-loop
-slice-aggregate-counted-3 c = search needs
-
--- src/main.rt:145:53
-slice-aggregate-counted-4 : tie.Need-slice-aggregate-counted-4 Inv-loop μ-loop
-slice-aggregate-counted-4 c = search needs
-
--- src/main.rt:145:9
-counted-requires-2 : tie.Need-counted-requires-2 Inv-loop μ-loop
-counted-requires-2 c κs = search needs
-
--- src/main.rt:148:9
-slice-aggregate-line-18 : tie.Need-slice-aggregate-line-18 Inv-loop μ-loop
-slice-aggregate-line-18 c = search needs
-
--- src/main.rt:149:9
-slice-aggregate-line-19 : tie.Need-slice-aggregate-line-19 Inv-loop μ-loop
-slice-aggregate-line-19 c = search needs
-
--- src/main.rt:150:9
-slice-aggregate-line-20 : tie.Need-slice-aggregate-line-20 Inv-loop μ-loop
-slice-aggregate-line-20 c = search needs
-
--- src/main.rt:151:9
-slice-aggregate-line-21 : tie.Need-slice-aggregate-line-21 Inv-loop μ-loop
-slice-aggregate-line-21 c = search needs
-
--- src/main.rt:152:9
-slice-aggregate-line-22 : tie.Need-slice-aggregate-line-22 Inv-loop μ-loop
-slice-aggregate-line-22 c = search needs
-
--- src/main.rt:153:9
-slice-aggregate-line-23 : tie.Need-slice-aggregate-line-23 Inv-loop μ-loop
-slice-aggregate-line-23 c = search needs
-
--- src/main.rt:154:9
-slice-aggregate-line-24 : tie.Need-slice-aggregate-line-24 Inv-loop μ-loop
-slice-aggregate-line-24 c = search needs
-
--- src/main.rt:155:9
-slice-aggregate-line-25 : tie.Need-slice-aggregate-line-25 Inv-loop μ-loop
-slice-aggregate-line-25 c = search needs
-
--- src/main.rt:146:9
-line-requires-3 : tie.Need-line-requires-3 Inv-loop μ-loop
-line-requires-3 c κs = search needs
-
--- src/main.rt:160:9
-slice-aggregate-line-26 : tie.Need-slice-aggregate-line-26 Inv-loop μ-loop
-slice-aggregate-line-26 c = search (needs, c .before .before .before .before .before .before .before .before .before .before .before .before .before .before .before .before .before .before .before .before .before .before .before .loop .inv .1)
-
--- src/main.rt:161:9
-slice-aggregate-line-27 : tie.Need-slice-aggregate-line-27 Inv-loop μ-loop
-slice-aggregate-line-27 c = search needs
-
--- src/main.rt:162:9
-slice-aggregate-line-28 : tie.Need-slice-aggregate-line-28 Inv-loop μ-loop
-slice-aggregate-line-28 c = search needs
-
--- src/main.rt:163:9
-slice-aggregate-line-29 : tie.Need-slice-aggregate-line-29 Inv-loop μ-loop
-slice-aggregate-line-29 c = search needs
-
--- src/main.rt:164:9
-slice-aggregate-line-30 : tie.Need-slice-aggregate-line-30 Inv-loop μ-loop
-slice-aggregate-line-30 c = search needs
-
--- src/main.rt:165:9
-slice-aggregate-line-31 : tie.Need-slice-aggregate-line-31 Inv-loop μ-loop
-slice-aggregate-line-31 c = search needs
-
--- src/main.rt:167:9
-slice-aggregate-line-32 : tie.Need-slice-aggregate-line-32 Inv-loop μ-loop
-slice-aggregate-line-32 c = search (needs, c .before .before .before .before .before .before .before .before .before .before .before .before .before .before .before .before .before .before .before .before .before .before .before .before .before .before .before .before .before .before .loop .inv .7)
-
--- src/main.rt:168:9
-slice-aggregate-line-33 : tie.Need-slice-aggregate-line-33 Inv-loop μ-loop
-slice-aggregate-line-33 c = search needs
-
--- src/main.rt:169:9
-slice-aggregate-line-34 : tie.Need-slice-aggregate-line-34 Inv-loop μ-loop
-slice-aggregate-line-34 c = search needs
-
--- src/main.rt:157:9
-line-requires-4 : tie.Need-line-requires-4 Inv-loop μ-loop
-line-requires-4 c κs = search needs
-
--- src/main.rt:171:26
+-- src/main.rt:147:18
 slice-aggregate-flushed : tie.Need-slice-aggregate-flushed Inv-loop μ-loop
 slice-aggregate-flushed c = search needs
 
--- src/main.rt:171:5
+-- src/main.rt:147:5
 flushed-requires : tie.Need-flushed-requires Inv-loop μ-loop
 flushed-requires c κs = search needs
 
--- src/main.rt:97:1
+-- src/main.rt:99:1
 returns : tie.Need-returns Inv-loop μ-loop
 returns c = search needs
 
@@ -294,11 +189,11 @@ main-spec =
     μ-loop
     new-requires
     new-requires-2
+    loop-holds
+    sub-turns
     slice-aggregate-refilled
     slice-aggregate-refilled-2
     refilled-requires
-    loop-holds
-    sub-turns
     slice-aggregate-taken
     slice-aggregate-taken-2
     taken-requires
@@ -326,34 +221,8 @@ main-spec =
     line-requires-2
     slice-aggregate-spared
     spared-requires
-    slice-aggregate-refilled-3
-    slice-aggregate-refilled-4
-    refilled-requires-2
     loop-less
     loop-again
-    with-whole-requires
-    slice-aggregate-counted-3
-    slice-aggregate-counted-4
-    counted-requires-2
-    slice-aggregate-line-18
-    slice-aggregate-line-19
-    slice-aggregate-line-20
-    slice-aggregate-line-21
-    slice-aggregate-line-22
-    slice-aggregate-line-23
-    slice-aggregate-line-24
-    slice-aggregate-line-25
-    line-requires-3
-    slice-aggregate-line-26
-    slice-aggregate-line-27
-    slice-aggregate-line-28
-    slice-aggregate-line-29
-    slice-aggregate-line-30
-    slice-aggregate-line-31
-    slice-aggregate-line-32
-    slice-aggregate-line-33
-    slice-aggregate-line-34
-    line-requires-4
     slice-aggregate-flushed
     flushed-requires
     returns)
