@@ -18,10 +18,7 @@ test:
 	@.ci/run
 
 bench: rt-is-there
-	@bench/sha256
-	@bench/devices
-	@bench/listing
-	@bench/calls
+	@bench/all
 
 # What is not an answer goes to standard error, so that the answers can be kept in a file.
 replay: rt-is-there

@@ -15,6 +15,7 @@ mod calls;
 mod device_lines;
 mod look_lines;
 mod memory_lines;
+mod more_calls;
 mod say;
 mod session;
 mod setting_lines;
