@@ -55,8 +55,9 @@ impl Setup {
         if refusals.contains(&414) {
             refusals.retain(|refusal| !matches!(refusal, 407 | 408));
         }
-        // Syntax comes last: the other breaks look for their tokens in whole statements.
+        // Syntax comes last, and once: every break looks for its tokens in whole statements.
         refusals.sort_by_key(|&refusal| refusal == 404);
+        refusals.dedup_by(|second, first| *second == 404 && *first == 404);
         let mut plan = Plan::random(random, Style::Usual);
         if refusals.contains(&405) {
             fill_segments(random, &mut plan);
