@@ -1,6 +1,6 @@
 -- The strings that a caller hands in (document 01, Login): "A string ends at its first zero, which must stand at place 0 to 32, else INVALID_STRING."
 use Rattle.std.specs.Prelude.{Bool, List, ℕ, ltb, length, take}
-use Rattle.bytes.specs.Bytes.{index_of}
+use Rattle.octets.specs.Search.{index_of}
 
 -- the place of the first zero among the first 33 bytes, or how many those are where none is zero
 unfoldable pub ending : List ℕ → ℕ

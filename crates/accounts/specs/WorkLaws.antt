@@ -1,7 +1,7 @@
 -- What bounds a work count: a string is digested in one block, and a table has no more records than bytes.
 use Rattle.std.specs.Prelude.{Bool, true, false, List, [], ◌∷◌, ◌≡◌, refl, ℕ, ◌+◌, ◌≤◌, eqb, length, take, drop}
 use Rattle.std.proofs.Common.{arith, length-take}
-use Rattle.bytes.specs.Bytes.{index_of, index_after}
+use Rattle.octets.specs.Search.{index_of, index_after}
 use Rattle.rows.specs.Records.{chunks}
 use Rattle.sha256.specs.Padding.{zeros, blocks}
 use Rattle.sha256.specs.Laws.{length-padded}

@@ -1,7 +1,7 @@
 -- Points of document 01 about logins and passwords, computed from the definitions. The tables are those of `passwords_examples`: "ab" with a digest of sevens, then "c" with a
 -- digest of eights. A digest is computed only where an answer hangs on it.
 use Rattle.std.specs.Prelude.{true, false, List, [], ◌∷◌, ◌++◌, ◌≡◌, refl, ℕ, take, replicate}
-use Rattle.bytes.specs.Bytes.{index_of, index_after}
+use Rattle.octets.specs.Search.{index_of, index_after}
 use Rattle.checks.specs.Checks.{refused, after}
 use Rattle.checks.specs.Settle.{settle}
 use Rattle.checks.specs.Told.{told}

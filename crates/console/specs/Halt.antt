@@ -1,6 +1,6 @@
 -- Document 01, "Calls", Shutdown: what it shows on the caller's screen.
 use Rattle.std.specs.Prelude.{cond, ◌&&◌, List, [], ◌∷◌, ◌++◌, ℕ, leb, ltb, length, take}
-use Rattle.bytes.specs.Bytes.{index_of}
+use Rattle.octets.specs.Search.{index_of}
 use Rattle.state.specs.declared.Partition.{Partition}
 use Rattle.console.specs.Console.{Drawn, drawing, drawn}
 

@@ -1,7 +1,7 @@
 -- Partitions to compute with, and one name that opens every definition.
 use Rattle.std.specs.Prelude.{Bool, true, false, ◌∷◌, ℕ, replicate}
 use Rattle.octets.specs.Lists.{part, over, write_at, on_part}
-use Rattle.bytes.specs.Bytes.{index_after, index_of}
+use Rattle.octets.specs.Search.{index_after, index_of}
 use Rattle.checks.specs.Checks.{refused, after}
 use Rattle.checks.specs.Settle.{settle}
 use Rattle.devices.specs.declared.keyboard.Keyboard.{Keyboard}

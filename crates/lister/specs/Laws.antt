@@ -3,7 +3,7 @@ use Rattle.std.specs.Prelude.{Bool, true, false, ◌||◌, List, [], ◌++◌, �
 use Rattle.std.proofs.Common.{ap, ◌∙◌, zero-add, add-one, arith, length-drop, drop_of_length-le, drop-cons, take_all, le-leb, lt-ltb, le-ltb, eq-eqb, ne_eqb}
 use Rattle.std.proofs.Math.Seq.{take-length}
 use Rattle.std.proofs.lemmas.Bool.{lt-leb}
-use Rattle.bytes.specs.Bytes.{index_of, slice}
+use Rattle.octets.specs.Search.{index_of, slice}
 use Rattle.lines.specs.Lines.{decimal, line, dseg, mseg, refusal_line}
 use Rattle.lines.specs.Wrote.{Wrote, most}
 use Rattle.octets.specs.Lists.{part}

@@ -1,6 +1,6 @@
 -- Document 01, "The listing program".
 use Rattle.std.specs.Prelude.{Bool, true, false, cond, ◌&&◌, ◌||◌, List, [], ◌∷◌, ◌++◌, ℕ, zero, suc, ◌+◌, min, eqb, leb, ltb, length, take, drop, get_or}
-use Rattle.bytes.specs.Bytes.{index_of}
+use Rattle.octets.specs.Search.{index_of}
 use Rattle.lines.specs.Lines.{decimal, header_line, line, dseg, mseg, refusal_line}
 use Rattle.octets.specs.Lists.{over}
 use Rattle.setup.specs.Setup.{is_active, bytes_of}

@@ -8,7 +8,7 @@ mod row;
 mod show;
 
 ghost use Rattle.std.specs.Prelude.{◌≡◌};
-ghost use Rattle.lister.specs.Listing.{answer_to, result, shown, listed};
+ghost use Rattle.lister.specs.Listing.{answer_to, result_of, shown, listed};
 
 // How many bytes of output there are; or that the output is too short for them, and nothing was written.
 #[derive(Clone, Copy)]
@@ -19,7 +19,7 @@ pub enum Written {
 
 // The listing of the text behind a first line of A and P.
 fn answer(output: &mut [u8], letters: &[u8], text: &[u8]) -> Written
-    ensures* { λ r. ⌜ result r output.new ≡ shown (answer_to letters.now text.now) output.old ⌝ }
+    ensures { result_of result output.new ≡ shown (answer_to letters.now text.now) output.old }
 {
     let count = parts::least(letters.len(), 9) as u32;
     let active = row::flags(letters);
@@ -34,9 +34,9 @@ fn answer(output: &mut [u8], letters: &[u8], text: &[u8]) -> Written
 
 // The listing of any input, written to the start of `output`; nothing is written where that is too short.
 pub fn listing(input: &[u8], output: &mut [u8]) -> Written
-    ensures* { λ r. ⌜ result r output.new ≡ listed input.now output.old ⌝ }
+    ensures { result_of result output.new ≡ listed input.now output.old }
 {
-    let n = bytes::scan::find(input, 0, input.len(), 10);
+    let n = octets::search::find(input, 0, input.len(), 10);
     if n == input.len() {
         return show::refusal(output, 401, 0);
     }

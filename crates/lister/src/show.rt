@@ -1,7 +1,7 @@
 // A text shown: it is counted first, and written only where it fits.
 ghost use Rattle.std.specs.Prelude.{◌≡◌};
 ghost use Rattle.lines.specs.Lines.{refusal_line};
-ghost use Rattle.lister.specs.Listing.{result, shown, setup_lines, answer};
+ghost use Rattle.lister.specs.Listing.{result_of, shown, setup_lines, answer};
 
 use super::Written;
 use super::lines_of::put_setup;
@@ -10,7 +10,7 @@ use setup::{Outcome, Setup};
 
 // The line of a refusal.
 pub fn refusal(output: &mut [u8], number: u32, row: usize) -> Written
-    ensures* { λ r. ⌜ result r output.new ≡ shown (refusal_line number row) output.old ⌝ }
+    ensures { result_of result output.new ≡ shown (refusal_line number row) output.old }
 {
     let mut none = [0u8; 1];
     let n = put_refusal(&mut none, 0, number, row);
@@ -23,7 +23,7 @@ pub fn refusal(output: &mut [u8], number: u32, row: usize) -> Written
 
 // The lines of a set-up.
 fn setup_lines(output: &mut [u8], text: &[u8], setup: Setup) -> Written
-    ensures* { λ r. ⌜ result r output.new ≡ shown (setup_lines text.now setup) output.old ⌝ }
+    ensures { result_of result output.new ≡ shown (setup_lines text.now setup) output.old }
 {
     let mut none = [0u8; 1];
     let n = put_setup(&mut none, 0, text, setup);
@@ -36,7 +36,7 @@ fn setup_lines(output: &mut [u8], text: &[u8], setup: Setup) -> Written
 
 // What a reading gave.
 pub fn outcome(output: &mut [u8], text: &[u8], outcome: Outcome) -> Written
-    ensures* { λ r. ⌜ result r output.new ≡ shown (answer text.now outcome) output.old ⌝ }
+    ensures { result_of result output.new ≡ shown (answer text.now outcome) output.old }
 {
     if outcome.number != 0 {
         return refusal(output, outcome.number, outcome.line);

@@ -8,7 +8,7 @@ use Rattle.checks.specs.Checks.{refused, after}
 use Rattle.setup.specs.Setup.{begun, is_active, bytes_of, has_code, among, paths_of, path_taken, permission_of, permission_row, with_code, with_dseg, with_mseg}
 use Rattle.setup.specs.Rules.{reserved, absent, some_writes, code_checks, dseg_checks, mseg_checks, code_missing, some_active, limits}
 use Rattle.setup.specs.Reading.{settled, judged, judged_at, ended, read_from, read}
-use Rattle.bytes.specs.Bytes.{index_of, index_after}
+use Rattle.octets.specs.Search.{index_of, index_after}
 use Rattle.lines.specs.Lines.{digits, decimal, header_line, permission, fields, line, refusal_line}
 use Rattle.lister.specs.Listing.{dseg_lines, mseg_lines, lines_of, partition_lines, setup_lines, answer, only_letters, letter_a, flags, answer_to, listing, shown, listed}
 

@@ -2,7 +2,7 @@
 -- an output of that length is always long enough.
 use Rattle.std.specs.Prelude.{false, ◌&&◌, ◌||◌, List, [], ◌≡◌, ℕ, zero, suc, ◌+◌, ◌*◌, ◌/◌, ◌≤◌, min, eqb, ltb, length, take, drop, get_or}
 use Rattle.std.proofs.Common.{arith, le-leb, length-append}
-use Rattle.bytes.specs.Bytes.{index_of}
+use Rattle.octets.specs.Search.{index_of}
 use Rattle.text.specs.Steps.{split}
 use Rattle.octets.specs.Lists.{over, part}
 use Rattle.octets.specs.PartLaws.{length_part}

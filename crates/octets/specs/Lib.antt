@@ -8,3 +8,4 @@ pub mod LentLaws
 pub mod NthLaws
 pub mod NumberLaws
 pub mod Same
+pub mod Search

@@ -1,6 +1,7 @@
 -- The test that two rows of bytes are the same, and what its answer says.
 use Rattle.std.specs.Prelude.{Bool, true, false, ◌&&◌, List, [], ◌∷◌, ◌≡◌, refl, ℕ, eqb}
 use Rattle.std.proofs.Common.{sym, eq-eqb, eqb-true}
+use lib.Pointwise.{pointwise}
 use Rattle.std.proofs.Math.Bool.{and-eq-true_iff}
 use Rattle.std.proofs.lemmas.Bool.{false≢true}
 
@@ -39,3 +40,11 @@ ne_same l m h = go (same_bytes l m) refl
 pub same-decided : (r : Bool) (l m : List ℕ) → (r ≡ true → l ≡ m) → (l ≡ m → r ≡ true) → r ≡ same_bytes l m
 same-decided true l m f g = sym (eq-same l m (f refl))
 same-decided false l m f g = sym (ne_same l m (λ e. false≢true (g e)))
+
+-- the test that goes over both rows place by place is this test
+pub same_bytes_pointwise : (l m : List ℕ) → pointwise eqb l m ≡ same_bytes l m
+unfolding same_bytes
+same_bytes_pointwise [] [] = refl
+same_bytes_pointwise [] (y ∷ m) = refl
+same_bytes_pointwise (x ∷ l) [] = refl
+same_bytes_pointwise (x ∷ l) (y ∷ m) = rw (same_bytes_pointwise l m)

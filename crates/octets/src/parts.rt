@@ -38,7 +38,7 @@ pub fn lay(from: &[u8], to: &mut [u8], at: usize)
     let start = least(at, to.len());
     let fitting = piece(from, 0, to.len() - start);
     let end = start + fitting.len();
-    bytes::copy(fitting, &mut to[start..end]);
+    to[start..end].copy_from_slice(fitting);
 }
 
 // Lays `from` over the n bytes of `to` from place `at` on, from place `offset` of these on: nothing outside them changes.

@@ -4,7 +4,7 @@ use Rattle.std.proofs.Common.{sym, ap, ◌∙◌, le_refl, arith, ne_eqb, leb-tr
 use Rattle.std.proofs.Math.Bool.{and-eq-true_iff}
 use Rattle.std.proofs.lemmas.List.{length-replicate}
 use Prim.Native.Nat.compare
-use Rattle.bytes.specs.Bytes.{index_of, index_after}
+use Rattle.octets.specs.Search.{index_of, index_after}
 use Rattle.octets.specs.Lists.{part, over, on_part, write_at, KeepsLength}
 use Rattle.octets.specs.PartLaws.{part_def, take_part, length_part}
 use Rattle.octets.specs.OnPartLaws.{on_part-same, length-on_part, drop-on_part-behind, part-on_part-same, on_part-twice}

@@ -3,7 +3,7 @@ use Rattle.std.specs.Prelude.{List, [], ◌∷◌, ◌≡◌, refl, ℕ, suc, �
 use Rattle.std.proofs.Common.{add-one, arith, le-leb, leb-true, leb-false, lit≤, length-drop, drop_of_length-le, drop-cons, drop-drop}
 use Rattle.std.proofs.Math.Decide.{dec_le}
 use Rattle.std.proofs.lemmas.Bool.{lt-leb}
-use Rattle.bytes.specs.Bytes.{index_of}
+use Rattle.octets.specs.Search.{index_of}
 use Rattle.octets.specs.Lists.{part, over, write_at}
 use Rattle.octets.specs.PartLaws.{part_def, part_out}
 use Rattle.text.specs.Steps.{split}

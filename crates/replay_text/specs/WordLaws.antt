@@ -4,7 +4,7 @@ use Rattle.std.proofs.Common.{arith}
 use Rattle.std.proofs.Math.Dec.{leb-zero, leb-suc-suc}
 use Rattle.std.proofs.Math.Nat.{add-sub_cancel_left}
 use Rattle.std.proofs.Math.Seq.{take-length}
-use Rattle.bytes.specs.Bytes.{index_of, index_after, slice}
+use Rattle.octets.specs.Search.{index_of, index_after, slice}
 use Rattle.octets.specs.PartLaws.{drop_min}
 use Rattle.text.specs.Gaps.{token_place}
 use Rattle.text.specs.Steps.{split}

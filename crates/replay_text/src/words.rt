@@ -1,6 +1,6 @@
 // Lines, words and numbers.
 ghost use Rattle.std.specs.Prelude.{◌≡◌, drop};
-ghost use Rattle.bytes.specs.Bytes.{index_of};
+ghost use Rattle.octets.specs.Search.{index_of};
 ghost use Rattle.replay_text.specs.Words.{number_of};
 
 use octets::parts;
@@ -18,7 +18,7 @@ pub fn before(mark: u8, text: &[u8], at: usize) -> usize
     ensures { result ≡ index_of mark (drop at text.now) }
 {
     let from = parts::least(at, text.len());
-    bytes::scan::find(text, from, text.len(), mark) - from
+    octets::search::find(text, from, text.len(), mark) - from
 }
 
 // A number as in a set-up text, and nothing else: one digit or more, at most 4,294,967,295.

@@ -2,7 +2,7 @@
 -- definitions answer, and what document 01 says.
 use Rattle.std.specs.Prelude.{false, List, [], ◌∷◌, ◌++◌, map, ◌≡◌, refl, ℕ, replicate}
 use Rattle.octets.specs.Lists.{write_at, on_part}
-use Rattle.bytes.specs.Bytes.{index_of, index_after}
+use Rattle.octets.specs.Search.{index_of, index_after}
 use Rattle.checks.specs.Checks.{refused, after}
 use Rattle.checks.specs.Settle.{settle}
 use Rattle.devices.specs.Screen.{blanks}

@@ -1,3 +1,0 @@
--- Laws that the walks by hand of these functions share.
-mod Owned
-mod Walks
