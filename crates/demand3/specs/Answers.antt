@@ -9,7 +9,7 @@ use Rattle.terminal.specs.declared.Terminal.{Terminal}
 use Rattle.terminal.specs.Start.{Start, begun_from, start}
 use Rattle.steps.specs.World.{World}
 use Rattle.started.specs.Start.{world_of, start-refused}
-use Rattle.silence.specs.Worlds.{settle-map}
+use Rattle.silence.proofs.Worlds.{settle-map}
 use Rattle.demand3.specs.Images.{mask_image}
 use Rattle.demand3.specs.Verdicts.{verdict_masked}
 

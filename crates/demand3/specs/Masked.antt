@@ -31,7 +31,7 @@ use Rattle.started.specs.Plan.{plan, active_eight, seat_passive, plan-active, se
 use Rattle.started.specs.Tested.{tables-room}
 use Rattle.started.specs.FirstWorld.{world_from, seat_of_lem, as_long, start-joined, record_at_lem, in_setup, world-good}
 use Rattle.silence.specs.Mask.{seen, mask, mask_terminal, mask_tables}
-use Rattle.silence.specs.Memory.{mapped-apart}
+use Rattle.silence.proofs.Memory.{mapped-apart}
 use Rattle.demand3.specs.Images.{mask_image}
 use Rattle.demand3.specs.ImageLaws.{other_path}
 use Rattle.demand3.specs.Joined.{joined_same, joined-changed, over-changed}

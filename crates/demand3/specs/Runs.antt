@@ -5,8 +5,10 @@ use Rattle.steps.specs.World.{World, Move, run}
 use Rattle.good.specs.Good.{Good}
 use Rattle.good.specs.Steps.{good-step}
 use Rattle.silence.specs.Mask.{mask, mask_result}
-use Rattle.silence.specs.Runs.{AllAlike, AllSeenAlike, runs-alike}
-use Rattle.silence.specs.SecondHalf.{FairRuns, runs_same}
+use Rattle.silence.specs.Runs.{AllAlike, AllSeenAlike}
+use Rattle.silence.proofs.Runs.{runs-alike}
+use Rattle.silence.specs.SecondHalf.{FairRuns}
+use Rattle.silence.proofs.SecondHalf.{runs_same}
 
 module _ (q : ℕ) (w v : World) (g : Good w) (h : Good v) (a : is_active w.terminal.plan q ≡ true) (ms ns : List Move) where
   -- "Everything is the same in both but that file on the store and in memory, that partition's login record, its answers to login, who and set-password, and the

@@ -21,7 +21,7 @@ use Rattle.begin.specs.Files.{password_path}
 use Rattle.terminal.specs.Terminal.{unmoved, record_of, table_of, file_of, guard_of, differs, tables_wrong}
 use Rattle.terminal.specs.MemoryCalls as memory
 use Rattle.terminal.specs.AccountCalls as accounts
-use Rattle.promises.specs.Lengths.{step-keeps_frame}
+use Rattle.promises.proofs.Lengths.{step-keeps_frame}
 use Rattle.steps.specs.World.{World, Move, ReadNext, ReadRandom, WriteNext, WriteRandom, Load, Store, Flush, Login, Who, Logout, SetPassword, Shutdown, Powerdown, Configuration, Key, Attention, Fault, fills, answers, becomes, step}
 use Rattle.good.specs.Good.{plan_of, Good}
 use Rattle.good.specs.MemoryMoves.{reached}
