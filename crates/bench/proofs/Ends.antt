@@ -4,7 +4,7 @@ use Rattle.terminal.specs.declared.Terminal.{Terminal}
 use Rattle.terminal.specs.declared.Answer.{Answer}
 use Rattle.terminal.specs.Terminal.{Outcome, outcome}
 use Rattle.terminal.specs.AccountCalls.{Written, written}
-use Rattle.bench.specs.Scene.{Scene, scene, Seen, seen}
+use Rattle.bench.specs.Scene.{Scene, scene, seen}
 use Rattle.bench.specs.Turns.{turns, with_answer, answer_after, with_screens, screens_after, with_arena, arena_after, with_lent, lent_after, with_written, written_after, scene_after, events_after}
 
 pub none_yet : {A : Type 0} (step : A → A) (a : A) → a ≡ turns 0 step a

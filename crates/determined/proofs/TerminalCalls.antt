@@ -8,7 +8,7 @@ use Rattle.terminal.specs.AccountCalls.{login as AccountCalls·login, who as Acc
 use Rattle.terminal.specs.DeviceCalls.{read_next, read_random, write_next, write_random}
 use Rattle.terminal.specs.Events.{key as Events·key, attention as Events·attention, fault as Events·fault}
 use Rattle.terminal.specs.MemoryCalls.{load as MemoryCalls·load, store as MemoryCalls·store, flush as MemoryCalls·flush, configuration as MemoryCalls·configuration}
-use Rattle.terminal.specs.Start.{Start, start_of, start as Start·start}
+use Rattle.terminal.specs.Start.{start_of, start as Start·start}
 use Rattle.terminal.specs.StopCalls.{shutdown as StopCalls·shutdown, powerdown as StopCalls·powerdown}
 use Rattle.determined.specs.Determined.{AtMostOne, plain}
 use Rattle.determined.specs.TerminalCalls.{by_outcome, by_written, by_start}

@@ -1,7 +1,6 @@
 -- Document 01, "Points on either side": the starred points, those about the text and those about calls, as one table over the definitions. A point is what the
 -- definitions answer, and what document 01 says.
-use Rattle.std.specs.Prelude.{false, List, [], ◌∷◌, ◌++◌, map, ◌≡◌, refl, ℕ, replicate}
-use Rattle.octets.specs.Lists.{write_at, on_part}
+use Rattle.std.specs.Prelude.{List, [], ◌∷◌, ◌++◌, map, ◌≡◌, refl, ℕ, replicate}
 use Rattle.octets.specs.Search.{index_of, index_after}
 use Rattle.checks.specs.Checks.{refused, after}
 use Rattle.checks.specs.Settle.{settle}

@@ -5,7 +5,7 @@ use Rattle.state.specs.Parts.{with_part, with_stop}
 use Rattle.console.specs.Console.{Drawn}
 use Rattle.console.specs.Halt.{halt}
 use Rattle.terminal.specs.declared.Terminal.{Terminal}
-use Rattle.terminal.specs.Terminal.{Outcome, answer, outcome, with_state, with_partition, partition_of, guard_of, differs}
+use Rattle.terminal.specs.Terminal.{Outcome, answer, outcome, with_state, partition_of, guard_of, differs}
 
 -- "The terminal is stopped and the answer is 0": the off mark stays as it was
 unfoldable pub stopped : Terminal → ℕ → Drawn → Outcome

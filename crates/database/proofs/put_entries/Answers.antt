@@ -1,4 +1,4 @@
-use Rattle.std.proofs.Common.{◌≡◌, refl, ◌-◌, ◌<◌, arith, length, rules}
+use Rattle.std.proofs.Common.{◌≡◌, refl, ◌<◌, arith, length, rules}
 use Rattle.state.specs.Parts.{segment_at}
 use Rattle.database.specs.LaidLaws.{right-read, row_laid, rows_start, rows_step, rows-most, rows-length}
 use Rattle.database.proofs.put_entries.Goals as goal

@@ -1,4 +1,4 @@
-use Rattle.std.proofs.Common.{refl, ◌-◌, arith, length-set}
+use Rattle.std.proofs.Common.{refl, arith, length-set}
 use Rattle.begin.specs.Each.{firsts}
 use Rattle.begin.specs.EachLaws.{firsts-step, firsts_end}
 use Rattle.begin.specs.Files.{password_file, password_files}

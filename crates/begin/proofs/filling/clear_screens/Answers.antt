@@ -1,4 +1,4 @@
-use Rattle.std.proofs.Common.{◌≡◌, refl, ap, ◌∙◌, ◌-◌, arith, length}
+use Rattle.std.proofs.Common.{◌≡◌, refl, ap, ◌∙◌, arith, length}
 use Rattle.begin.specs.Filled.{cleared}
 use Rattle.begin.specs.FilledLaws.{length-cleared, cleared_more}
 use Rattle.begin.proofs.filling.clear_screens.Goals as goal

@@ -1,4 +1,4 @@
-use Rattle.std.proofs.Common.{◌≡◌, refl, ap, ◌∙◌, ◌-◌, arith, length}
+use Rattle.std.proofs.Common.{◌≡◌, refl, ap, ◌∙◌, arith, length}
 use Rattle.octets.specs.Lists.{over}
 use Rattle.octets.specs.WriteLaws.{length_over}
 use Rattle.begin.specs.Each.{joined}

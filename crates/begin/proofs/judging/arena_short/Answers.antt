@@ -1,4 +1,4 @@
-use Rattle.std.proofs.Common.{le-ltb, ◌≡◌, sym, ◌∙◌, ◌-◌, arith}
+use Rattle.std.proofs.Common.{le-ltb, ◌≡◌, sym, ◌∙◌, arith}
 use Rattle.begin.specs.Each.{total}
 use Rattle.begin.specs.JudgeLaws.{short-step, place-step}
 use Rattle.begin.specs.Planned.{size_of, start_of}

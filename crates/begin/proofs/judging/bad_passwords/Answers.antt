@@ -1,4 +1,4 @@
-use Rattle.std.proofs.Common.{◌≡◌, refl, ◌-◌, arith}
+use Rattle.std.proofs.Common.{◌≡◌, refl, arith}
 use Rattle.begin.specs.JudgeLaws.{bad-step}
 use Rattle.begin.specs.Start.{bad_passwords}
 use Rattle.begin.proofs.judging.bad_passwords.Goals as goal

@@ -1,4 +1,4 @@
-use Rattle.std.proofs.Common.{refl, sym, ◌∙◌, ◌-◌, arith}
+use Rattle.std.proofs.Common.{refl, sym, ◌∙◌, arith}
 use Rattle.begin.specs.PlannedLaws.{lowest_here, lowest-behind, lowest-none}
 use Rattle.begin.proofs.planning.lowest.Goals as goal
 

@@ -1,4 +1,4 @@
-use Rattle.std.proofs.Common.{refl, ◌∙◌, ℕ, ◌-◌, arith, length, get_or, length-set}
+use Rattle.std.proofs.Common.{refl, ◌∙◌, ℕ, arith, get_or, length-set}
 use Rattle.setup.specs.Setup.{no_span}
 use Rattle.begin.specs.Each.{firsts, total}
 use Rattle.begin.specs.EachLaws.{firsts-step, firsts_end, sum_step}

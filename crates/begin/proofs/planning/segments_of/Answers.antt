@@ -1,4 +1,4 @@
-use Rattle.std.proofs.Common.{refl, ◌∙◌, ◌-◌, arith, length-set}
+use Rattle.std.proofs.Common.{refl, ◌∙◌, arith, length-set}
 use Rattle.begin.specs.Each.{firsts, total}
 use Rattle.begin.specs.EachLaws.{firsts-step, firsts_end, sum_step}
 use Rattle.begin.specs.Planned.{size_of, start_of, segment_of}

@@ -1,6 +1,5 @@
-use Rattle.std.proofs.Common.{◌≡◌, ◌-◌, arith}
+use Rattle.std.proofs.Common.{◌≡◌, arith}
 use Rattle.bench.specs.Scene.{opened, none}
-use Rattle.bench.specs.Turns.{turns}
 use Rattle.bench.proofs.Ends.{none_yet, once_more, answer_end}
 use Rattle.bench.proofs.account_calls.virpulens_bench_logout.Goals as goal
 

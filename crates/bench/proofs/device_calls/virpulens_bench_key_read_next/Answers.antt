@@ -1,6 +1,5 @@
-use Rattle.std.proofs.Common.{◌≡◌, refl, ◌-◌, arith, rules}
+use Rattle.std.proofs.Common.{◌≡◌, refl, arith, rules}
 use Rattle.bench.specs.Scene.{opened, none}
-use Rattle.bench.specs.Turns.{turns}
 use Rattle.bench.proofs.Ends.{none_yet, once_more, lent_end}
 use Rattle.bench.proofs.device_calls.virpulens_bench_key_read_next.Goals as goal
 

@@ -1,6 +1,5 @@
-use Rattle.std.proofs.Common.{◌≡◌, refl, ◌-◌, arith, rules}
+use Rattle.std.proofs.Common.{◌≡◌, refl, arith, rules}
 use Rattle.bench.specs.Scene.{opened, none}
-use Rattle.bench.specs.Turns.{turns}
 use Rattle.bench.proofs.Ends.{none_yet, once_more, lent_end}
 use Rattle.bench.proofs.memory_calls.virpulens_bench_flush.Goals as goal
 

@@ -1,6 +1,5 @@
-use Rattle.std.proofs.Common.{◌≡◌, refl, ◌-◌, arith, rules}
+use Rattle.std.proofs.Common.{◌≡◌, refl, arith, rules}
 use Rattle.bench.specs.Scene.{opened, none}
-use Rattle.bench.specs.Turns.{turns}
 use Rattle.bench.proofs.Ends.{none_yet, once_more, scene_end}
 use Rattle.bench.proofs.starts.virpulens_bench_start.Goals as goal
 
