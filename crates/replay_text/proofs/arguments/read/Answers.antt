@@ -1,0 +1,45 @@
+use Rattle.std.proofs.Common.{refl, sym, ap, ◌∙◌, ◌+◌, ◌-◌, ◌<◌, arith, length, drop, length-drop}
+use Rattle.replay_text.specs.Arguments.{most, arguments_of, read_words, words_from}
+use Rattle.replay_text.specs.WordLaws.{index_le}
+use Rattle.replay_text.specs.ArgumentLaws.{read_step, read_end_lem, read_left}
+use Rattle.replay_text.proofs.arguments.read.Goals as goal
+
+pub loop-i-init : goal.loop-i-init
+unfolding arguments_of
+loop-i-init c = (rw c.new-sofar.ensures, refl)
+
+pub overflow_add-length : goal.overflow_add-length
+overflow_add-length c = let line = c.args.line.now in
+    let place = c.loop-i.place in
+    rw c.before-length.ensures (omega (arith, index_le 32 (drop place line), length-drop place line))
+
+pub loop-i-preserved : goal.loop-i-preserved
+loop-i-preserved c = let room : length c.args.line.now < most = omega arith in
+    let args = c.args in
+    let loop = c.loop-i in
+    let word = c.before-length in
+    let piece = c.piece in (
+      loop.invariant.0
+          ∙ (read_step args.pattern.now loop.i args.line.now loop.place word.result piece.result.now c.sum-place.result _
+          c.loop-i-test.true word.ensures piece.ensures c.sum-place.ensures room
+          ∙ ap (read_words (drop (loop.i + 1) args.pattern.now) (words_from args.line.now c.sum-place.result)) (sym c.argument-next.ensures)),
+      omega arith,
+    )
+
+pub shape_of-given-then-line-place : goal.shape_of-given-then-line-place
+shape_of-given-then-line-place c = c.loop-i.invariant.1
+
+pub returns-then-line-place : goal.returns-then-line-place
+returns-then-line-place c = let args = c.args in
+    let loop = c.loop-i in
+    sym (loop.invariant.0 ∙ read_end_lem args.pattern.now loop.i args.line.now loop.place _ c.loop-i-test.false c.if-line-place.true)
+
+pub shape_of-given : goal.shape_of-given
+shape_of-given c = c.loop-i.invariant.1
+
+pub returns : goal.returns
+returns c = let args = c.args in
+    let loop = c.loop-i in
+    rw c.refused.ensures
+    (sym (loop.invariant.0
+    ∙ read_left args.pattern.now loop.i args.line.now loop.place loop.sofar loop.given c.loop-i-test.false c.if-line-place.false))

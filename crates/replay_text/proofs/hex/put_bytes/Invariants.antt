@@ -1,0 +1,11 @@
+-- `replay_text::hex::put_bytes` meets its contract. The loop's invariant: the first i digits are written. Assumes nothing.
+use Rattle.std.proofs.Common.{◌≡◌, ◌-◌, ◌≤◌, length, take}
+use Rattle.octets.specs.Lists.{write_at}
+use Rattle.replay_text.specs.Hex.{hex_of}
+use Rattle.replay_text.proofs.hex.put_bytes.Given as goal
+
+abbrev pub invariant-loop-i : goal.invariant-loop-i
+invariant-loop-i l = (l.out ≡ write_at l.start (take l.i (hex_of l.from)) l.initial.out) × (length l.out ≡ length l.initial.out) × (l.i ≤ l.count)
+
+abbrev pub decreases-loop-i : goal.decreases-loop-i
+decreases-loop-i l = l.count - l.i
