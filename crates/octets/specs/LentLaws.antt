@@ -1,7 +1,7 @@
 -- A part lent to be changed, cut to the row as `parts::piece` is: from place `at`, or the row's end, over n bytes, or to the row's end. What is lent is the
 -- part, and what comes back in its place changes that part and nothing else.
-use Rattle.std.specs.Prelude.{List, ◌≡◌, length, take, drop, ℕ, ◌+◌, ◌-◌, min}
-use Rattle.std.proofs.Common.{sym, arith, drop-drop, length-drop}
+use Rattle.std.specs.Prelude.{List, ◌≡◌, length, drop, ℕ, ◌+◌, ◌-◌, min}
+use Rattle.std.proofs.Common.{arith, drop-drop, length-drop}
 use borrow.Rule.Slice.PartMut.{mid_of, put_mid}
 use Rattle.octets.specs.Lists.{part, on_part}
 use Rattle.octets.specs.PartLaws.{take_min, drop_min}

@@ -1,5 +1,5 @@
 -- The place of a byte in a row, and a part of a row between two places.
-use Rattle.std.specs.Prelude.{Bool, true, false, List, [], ◌∷◌, ℕ, zero, suc, eqb, take, drop}
+use Rattle.std.specs.Prelude.{Bool, true, false, List, [], ◌∷◌, ℕ, suc, eqb, take, drop}
 
 unfoldable pub index_after : Bool → ℕ → ℕ
 index_after true n = 0

@@ -1,10 +1,8 @@
 -- `octets::parts::lay` meets its contract: what is copied into the part that it fits is what a write from `at` on writes. Assumes nothing.
-use Rattle.std.proofs.Common.{List, ◌++◌, append-nil, ◌≡◌, ℕ, ◌+◌, ◌-◌, ◌≤◌, min, arith, length, take, drop, length-drop, take_all}
-use Rattle.std.proofs.Math.Nat.{sub_self}
-use Rattle.std.proofs.Math.Seq.{take-length}
-use borrow.Rule.Slice.PartMut.{mid_of, put_mid}
+use Rattle.std.proofs.Common.{List, ◌≡◌, ℕ, ◌+◌, ◌-◌, ◌≤◌, min, arith, length, drop, length-drop, take_all}
+use borrow.Rule.Slice.PartMut.{put_mid}
 use Rattle.octets.specs.Lists.{part, write_at}
-use Rattle.octets.specs.PartLaws.{length_part, part_def, drop-take}
+use Rattle.octets.specs.PartLaws.{length_part, part_def}
 use Rattle.octets.specs.WriteLaws.{over-split, write_at-fit, write_at-min}
 use Rattle.octets.proofs.parts.lay.Goals as goal
 

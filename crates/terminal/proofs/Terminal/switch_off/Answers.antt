@@ -1,0 +1,13 @@
+use Rattle.std.proofs.Common.{eq-eqb, ne_eqb}
+use Rattle.checks.specs.Settle.{settle}
+use Rattle.terminal.specs.StopCalls.{switched_off}
+use Rattle.terminal.specs.Terminal.{differs}
+use Rattle.terminal.proofs.Terminal.switch_off.Goals as goal
+
+pub returns-then-n-ne0 : goal.returns-then-n-ne0
+unfolding switched_off differs settle
+returns-then-n-ne0 c = rw (c.answer.ensures, ← c.guard-n.ensures, ne_eqb _ _ c.if-n-ne0.true)
+
+pub returns : goal.returns
+unfolding switched_off differs settle
+returns c = rw (c.answer-2.ensures, c.with_state-next.ensures, c.with_stop.ensures, ← c.guard-n.ensures, eq-eqb _ _ c.if-n-ne0.false)
