@@ -1,1 +1,2 @@
+-- No contract of a public function of the terminal allows two results.
 pub mod TerminalCalls

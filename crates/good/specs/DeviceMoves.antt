@@ -8,7 +8,6 @@ use Rattle.state.specs.Parts.{is_active, part_at, with_part, with_stop, with_fau
 use Rattle.guard.specs.Test.{all_of, good_counts, good_seat, good_segment, good_plan}
 use Rattle.guard.specs.TestLaws.{few}
 use Rattle.guard.specs.Events.{running, typed, key, attention, fault}
-use Rattle.console.specs.Console.{read_next, read_random, write_next, write_random}
 use Rattle.console.specs.ConsoleLaws.{length-write_next, length-write_random, length-halt}
 use Rattle.console.specs.Halt.{halt}
 use Rattle.terminal.specs.Terminal.{Outcome, with_state, with_partition, partition_of}

@@ -36,7 +36,7 @@ fn answer(output: &mut [u8], letters: &[u8], text: &[u8]) -> Written
 pub fn listing(input: &[u8], output: &mut [u8]) -> Written
     ensures { result_of result output.new ≡ listed input.now output.old }
 {
-    let n = octets::search::find(input, 0, input.len(), 10);
+    let n = octets::search::find(input, 10);
     if n == input.len() {
         return show::refusal(output, 401, 0);
     }

@@ -1,7 +1,7 @@
 // Rows compared and searched.
-ghost use Rattle.std.specs.Prelude.{◌≡◌, ◌+◌, ◌≤◌, length, take};
+ghost use Rattle.std.specs.Prelude.{◌≡◌, ◌≤◌, length, take};
 ghost use Rattle.octets.specs.Same.{same_bytes};
-ghost use Rattle.octets.specs.Search.{index_of, slice};
+ghost use Rattle.octets.specs.Search.{index_of};
 
 use super::parts;
 
@@ -12,24 +12,22 @@ pub fn same(a: &[u8], b: &[u8]) -> bool
     a == b
 }
 
-// The place of the first `byte` from place `from` on and before place `end`; `end` where there is none.
-pub fn find(s: &[u8], from: usize, end: usize, byte: u8) -> usize
-    requires from_end { from ≤ end }
-    requires inside { end ≤ length s.now }
-    ensures place { result ≡ from + index_of byte (slice from end s.now) }
-    ensures within { result ≤ end }
+// The place of the first `byte`, or how many bytes there are where there is none.
+pub fn find(s: &[u8], byte: u8) -> usize
+    ensures place { result ≡ index_of byte s.now }
+    ensures within { result ≤ length s.now }
 {
-    for i in from..end {
+    for i in 0..s.len() {
         if s[i] == byte {
             return i;
         }
     }
-    end
+    s.len()
 }
 
 // The place of the first zero among the first `most` bytes, or how many bytes were looked at where there is none.
 pub fn first_zero(s: &[u8], most: usize) -> usize
     ensures { result ≡ index_of 0 (take most s.now) }
 {
-    find(s, 0, parts::least(most, s.len()), 0)
+    find(parts::piece(s, 0, most), 0)
 }

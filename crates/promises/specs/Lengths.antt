@@ -1,5 +1,5 @@
 -- What no move and no run changes: the plan that start fixed, the permission table, how many partitions there are, and how long each area and buffer is.
-use Rattle.std.specs.Prelude.{List, [], ◌∷◌, ◌≡◌, ℕ, length}
+use Rattle.std.specs.Prelude.{◌≡◌, length}
 use Rattle.terminal.specs.declared.Terminal.{Terminal}
 use Rattle.steps.specs.World.{World}
 

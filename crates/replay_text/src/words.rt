@@ -18,7 +18,7 @@ pub fn before(mark: u8, text: &[u8], at: usize) -> usize
     ensures { result ≡ index_of mark (drop at text.now) }
 {
     let from = parts::least(at, text.len());
-    octets::search::find(text, from, text.len(), mark) - from
+    octets::search::find(&text[from..], mark)
 }
 
 // A number as in a set-up text, and nothing else: one digit or more, at most 4,294,967,295.

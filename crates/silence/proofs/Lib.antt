@@ -1,3 +1,4 @@
+-- What is proved behind the mask: each step first, then two runs.
 pub mod Veil
 pub mod Worlds
 pub mod Devices

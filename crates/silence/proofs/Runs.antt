@@ -1,7 +1,7 @@
 -- Demand 3, its first half: "Run two terminals that start alike and receive like events and calls, except for the digests in one active partition's password file
 -- and the passwords in that partition's login and set-password calls. Everything is the same in both but that file on the store and in memory, that partition's
 -- login record, its answers to login, who and set-password, and the buffer who fills."
-use Rattle.std.specs.Prelude.{Bool, true, List, [], ◌∷◌, ◌≡◌, refl, ℕ, false}
+use Rattle.std.specs.Prelude.{Bool, true, List, ◌≡◌, refl, ℕ, false}
 use Rattle.std.proofs.Common.{sym, ◌∙◌, eq-eqb, ap}
 use Rattle.std.proofs.lemmas.Bool.{false≢true}
 use Rattle.rows.specs.LikeLaws.{by_test}

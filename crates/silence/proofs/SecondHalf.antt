@@ -1,6 +1,6 @@
 -- Demand 3, its second half: "If besides each of its logins gets the same answer number, and each of its new passwords is allowed in both or in neither, then those
 -- answers, their work counts and the login record are the same too."
-use Rattle.std.specs.Prelude.{true, ◌≡◌, ℕ, List, [], ◌∷◌, map, refl}
+use Rattle.std.specs.Prelude.{true, ◌≡◌, ℕ, List, [], map, refl}
 use Rattle.std.proofs.Common.{sym, ap, ◌∙◌}
 use Rattle.state.specs.Parts.{is_active}
 use Rattle.accounts.specs.Strings.{is_string}

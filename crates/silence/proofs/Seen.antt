@@ -1,6 +1,6 @@
 -- What it says of two worlds that they look alike behind the mask: "Everything is the same in both but that file on the store and in memory, that partition's login
 -- record". The mask has no say in these sentences, so that nobody has to trust it.
-use Rattle.std.specs.Prelude.{Bool, false, List, ◌≡◌, ℕ, eqb, length}
+use Rattle.std.specs.Prelude.{Bool, false, ◌≡◌, ℕ, eqb, length}
 use Rattle.std.proofs.Common.{sym, ap, ◌∙◌}
 use Rattle.octets.specs.Lists.{part}
 use Rattle.octets.specs.OnPartLaws.{Apart, part-on_part-apart, part-on_part-same, length-on_part}

@@ -5,7 +5,7 @@ use Rattle.checks.specs.Settle.{settle}
 use Rattle.state.specs.declared.Plan.{Plan}
 use Rattle.terminal.specs.declared.Terminal.{Terminal}
 use Rattle.terminal.specs.declared.Answer.{Answer}
-use Rattle.terminal.specs.Terminal.{Outcome, answer}
+use Rattle.terminal.specs.Terminal.{Outcome}
 use Rattle.steps.specs.World.{World, fills, answers, becomes, with_terminal}
 use Rattle.silence.specs.Mask.{mask, mask_store, mask_tables, mask_terminal, mask_result}
 use Rattle.silence.specs.Worlds.{mask_answer, mask_outcome}

@@ -1,5 +1,5 @@
 -- q's own login, who and set-password behind the mask that keeps q's login record: what they answer hangs on no digest, but for a login's number.
-use Rattle.std.specs.Prelude.{cond, List, [], ◌∷◌, ℕ, ◌+◌, eqb}
+use Rattle.std.specs.Prelude.{cond, List, ℕ, ◌+◌, eqb}
 use Rattle.state.specs.declared.LoginRecord.{LoginRecord}
 use Rattle.passwords.specs.declared.Lookup.{Lookup}
 use Rattle.passwords.specs.declared.Lookup.TheVariants.{At, Nowhere}

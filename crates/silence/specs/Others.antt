@@ -1,6 +1,5 @@
 -- Login, who and set-password of a partition p that is not q, behind the mask of q: p's own record, table and file are as they were.
-use Rattle.std.specs.Prelude.{Bool, ℕ, List, []}
-use Rattle.terminal.specs.Terminal.{answer}
+use Rattle.std.specs.Prelude.{Bool, ℕ}
 use Rattle.terminal.specs.AccountCalls as accounts
 use Rattle.silence.specs.Mask.{mask_store, mask_tables}
 use Rattle.silence.specs.Worlds.{mask_answer}

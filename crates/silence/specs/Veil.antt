@@ -1,5 +1,5 @@
 -- The terminal behind the mask: the plan and the guard are as they were, and each partition is as it was but for a login record.
-use Rattle.std.specs.Prelude.{Bool, cond, List, [], ◌∷◌, ℕ, eqb}
+use Rattle.std.specs.Prelude.{Bool, cond, ℕ, eqb}
 use Rattle.state.specs.declared.Partition.{Partition}
 use Rattle.state.specs.declared.State.{State}
 use Rattle.state.specs.Parts.{part_at, with_part, with_login}

@@ -1,5 +1,5 @@
 -- A call that answers behind the mask as it would have without it leaves the masked world that it would have left.
-use Rattle.std.specs.Prelude.{Bool, [], ℕ}
+use Rattle.std.specs.Prelude.{Bool, ℕ}
 use Rattle.terminal.specs.declared.Answer.{Answer}
 use Rattle.terminal.specs.Terminal.{Outcome, outcome, answer}
 use Rattle.silence.specs.Mask.{mask_terminal}

@@ -8,8 +8,7 @@ use Rattle.rows.specs.LikeLaws.{by_test}
 use Rattle.devices.specs.Choice.{by_cond}
 use Rattle.image.specs.declared.Found.{Found}
 use Rattle.image.specs.declared.Found.TheVariants.{At, Nothing}
-use Rattle.image.specs.Files.{path}
-use Rattle.image.specs.Image.{spot, file, was_found}
+use Rattle.image.specs.Image.{spot, was_found}
 use Rattle.setup.specs.declared.Span.{Span}
 use Rattle.setup.specs.declared.Setup.{Setup}
 use Rattle.setup.specs.Setup.{no_span, span, bytes_of}

@@ -1,9 +1,7 @@
--- `octets::search::first_zero` meets its contract: a count past the end is as good as the end. Assumes nothing.
-use Rattle.std.proofs.Common.{zero-add}
-use Rattle.octets.specs.Search.{slice}
-use Rattle.octets.specs.PartLaws.{take_min}
+-- `octets::search::first_zero` meets its contract: the first bytes of a row are the part from its start. Assumes nothing.
+use Rattle.octets.specs.Lists.{part}
 use Rattle.octets.proofs.search.first_zero.Goals as goal
 
 pub returns : goal.returns
-unfolding slice
-returns c = rw (c.find.ensures.place, zero-add, c.least.ensures, take_min)
+unfolding part
+returns c = rw (c.find.ensures.place, c.piece.ensures)

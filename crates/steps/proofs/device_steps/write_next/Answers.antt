@@ -1,0 +1,7 @@
+-- `steps::device_steps::write_next` meets its contract: the method's contract is what the step is made of. Assumes nothing.
+use Rattle.steps.specs.World.{step}
+use Rattle.steps.proofs.device_steps.write_next.Goals as goal
+
+pub returns : goal.returns
+unfolding step
+returns c = λ w. rw (← c.write_next.ensures)

@@ -1,0 +1,7 @@
+-- `steps::memory_steps::flush` meets its contract: the method's contract is what the step is made of. Assumes nothing.
+use Rattle.steps.specs.World.{step}
+use Rattle.steps.proofs.memory_steps.flush.Goals as goal
+
+pub returns : goal.returns
+unfolding step
+returns c = λ w. rw (← c.flush.ensures)

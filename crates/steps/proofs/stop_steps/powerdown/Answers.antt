@@ -1,0 +1,7 @@
+-- `steps::stop_steps::powerdown` meets its contract: the method's contract is what the step is made of. Assumes nothing.
+use Rattle.steps.specs.World.{step}
+use Rattle.steps.proofs.stop_steps.powerdown.Goals as goal
+
+pub returns : goal.returns
+unfolding step
+returns c = λ w. rw (← c.powerdown.ensures)
