@@ -1,4 +1,5 @@
-// The lines that speak to the terminal, by their first word. Each function knows two words and hands any other on to the next one.
+// The lines that speak to the terminal, by their first word. Each function knows two words and hands any other on to
+// the next one.
 use super::session::{Run, Session};
 use super::{account_lines, device_lines, more_calls};
 use octets::{parts, search};
@@ -171,7 +172,8 @@ fn next_calls(
     )
 }
 
-// Carries out a line that speaks to the terminal, unless the line is done. Each area is lent as long as it is said to be now.
+// Carries out a line that speaks to the terminal, unless the line is done. Each area is lent as long as it is said to
+// be now.
 pub fn line(
     terminal: Terminal,
     run: Run,

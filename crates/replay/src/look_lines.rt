@@ -85,10 +85,8 @@ fn put_active(out: &mut [u8], at: usize, p: usize, terminal: Terminal) -> usize 
 // A line for each active partition.
 fn put_partitions(out: &mut [u8], at: usize, terminal: Terminal) -> usize {
     let mut place = at;
-    let mut p = 0;
-    while p < 8 {
+    for p in 0..8 {
         place = put_active(out, place, p, terminal);
-        p += 1;
     }
     place
 }
@@ -114,12 +112,10 @@ fn put_digest(out: &mut [u8], at: usize, name: &[u8], area: &[u8]) -> usize {
 // The permission table, row by row.
 fn flat(permissions: [[u8; 8]; 32]) -> [u8; 256] {
     let mut all = [0u8; 256];
-    let mut i = 0;
-    while i < 256 {
+    for i in 0..256 {
         let row = i / 8;
         let column = i % 8;
         all[i] = permissions[row][column];
-        i += 1;
     }
     all
 }
@@ -176,10 +172,8 @@ fn put_row(out: &mut [u8], at: usize, cells: &[u8], from: usize) -> usize {
 // The 25 rows of a screen.
 fn put_rows(out: &mut [u8], at: usize, cells: &[u8]) -> usize {
     let mut place = at;
-    let mut from = 0;
-    while from < 2000 {
-        place = put_row(out, place, cells, from);
-        from += 80;
+    for row in 0..25 {
+        place = put_row(out, place, cells, 80 * row);
     }
     place
 }

@@ -1,12 +1,14 @@
 // Reads a replay text from standard input and writes the terminal's answers (docs/REPLAY.md).
 //
-// Standard input is read in pieces of 65,536 bytes; a line is gathered in a row of its own, so that neither a long line nor a long text takes more memory.
+// Standard input is read in pieces of 65,536 bytes; a line is gathered in a row of its own, so that neither a long line
+// nor a long text takes more memory. A read or a write that fails ends the program with an error.
 #![tactic(auto)]
 
-use libc::{STDIN_FILENO, STDOUT_FILENO};
 use octets::{parts, search};
 use replay_text::words;
 use session::{Run, Session};
+use std::io;
+use std::io::{Read, Write};
 use terminal::Terminal;
 
 mod account_lines;
@@ -38,27 +40,27 @@ fn kept(terminal: Terminal, run: Run, out: &mut [u8]) -> Session {
 }
 
 // Writes out what waits.
-fn flushed(run: Run, out: &[u8]) -> Run {
-    io::write_all(STDOUT_FILENO, parts::piece(out, 0, run.said));
-    run.with_said(0)
+fn flushed(rt: &HostRuntime, run: Run, out: &[u8]) -> io::Result<Run> {
+    io::writer(rt).write_all(parts::piece(out, 0, run.said))?;
+    Ok(run.with_said(0))
 }
 
 // Writes out what waits where that is much.
-fn spared(run: Run, out: &[u8]) -> Run {
+fn spared(rt: &HostRuntime, run: Run, out: &[u8]) -> io::Result<Run> {
     if PLENTY < run.said {
-        return flushed(run, out);
+        return flushed(rt, run, out);
     }
-    run
+    Ok(run)
 }
 
 // Where nothing is left of the input that was read, writes out what waits and reads on; `end` is 0 at the input's end.
-fn refilled(run: Run, input: &mut [u8], out: &[u8]) -> Run {
+fn refilled(rt: &HostRuntime, run: Run, input: &mut [u8], out: &[u8]) -> io::Result<Run> {
     if run.at < run.end {
-        return run;
+        return Ok(run);
     }
-    let next = flushed(run, out);
-    let got = libc::read(STDIN_FILENO, input);
-    next.with_input(0, io::count(got, input))
+    let next = flushed(rt, run, out)?;
+    let got = rt.stdin().read(input)?;
+    Ok(next.with_input(0, got))
 }
 
 // Gathers what there is of a line.
@@ -67,8 +69,8 @@ fn gathered(run: Run, part: &[u8], line: &mut [u8]) -> Run {
     run.with_held(parts::sum(run.held, part.len(), usize::MAX))
 }
 
-// Takes what there is of a line out of the input that was read; `whole` says whether the line is complete with it. Behind the
-// input's end what is held is the last line.
+// Takes what there is of a line out of the input that was read; `whole` says whether the line is complete with it.
+// Behind the input's end what is held is the last line.
 fn taken(run: Run, input: &[u8], line: &mut [u8]) -> Run {
     let rest = parts::piece(parts::piece(input, 0, run.end), run.at, run.end);
     let length = words::before(10, rest, 0);
@@ -80,7 +82,8 @@ fn taken(run: Run, input: &[u8], line: &mut [u8]) -> Run {
     gathered(next, parts::piece(rest, 0, length), line)
 }
 
-// Counts the line where it is complete, and says whether it has to be carried out: an empty one and one that begins with '#' is passed over.
+// Counts the line where it is complete, and says whether it has to be carried out: an empty one and one that begins
+// with '#' is passed over.
 fn counted(run: Run, line: &[u8], out: &mut [u8]) -> Run {
     if !run.whole {
         return run.with_known(true);
@@ -96,8 +99,9 @@ fn counted(run: Run, line: &[u8], out: &mut [u8]) -> Run {
     next.with_known(false)
 }
 
-// A proved loop has to end, and nothing says that the input does: so the turns are counted down, from a number that no run uses up.
-fn main() {
+// A proved loop has to end, and nothing says that the input does: so the turns are counted, up to a number that no run
+// uses up.
+fn main(rt: HostRuntime) -> io::Result<()> {
     let mut input = [0u8; 65536];
     let mut line = [0u8; 131200];
     let mut text = [0u8; 20000];
@@ -111,10 +115,11 @@ fn main() {
     let mut out = [0u8; 65536];
     let mut terminal = Terminal::new();
     let mut run = Run::new();
-    let mut turns = u64::MAX;
-    while 0 < turns && !run.done {
-        turns -= 1;
-        let filled = refilled(run, &mut input, &out);
+    for _ in 0..u64::MAX {
+        if run.done {
+            break;
+        }
+        let filled = refilled(&rt, run, &mut input, &out)?;
         let more = taken(filled, &input, &mut line);
         let next = counted(more, &line, &mut out);
         let set = settings::line(
@@ -143,7 +148,8 @@ fn main() {
             &mut out,
         );
         terminal = session.terminal;
-        run = spared(session.run, &out);
+        run = spared(&rt, session.run, &out)?;
     }
-    flushed(run, &out);
+    flushed(&rt, run, &out)?;
+    Ok(())
 }

@@ -1,5 +1,5 @@
-// The second half of the lines that speak to the terminal: segments, the configuration, start, faults, stops, looks and keys. Each function knows two words and hands
-// any other on to the next one.
+// The second half of the lines that speak to the terminal: segments, the configuration, start, faults, stops, looks and
+// keys. Each function knows two words and hands any other on to the next one.
 use super::session::{Run, Session};
 use super::{kept, look_lines, memory_lines, start_line, stop_lines};
 use octets::{parts, search};

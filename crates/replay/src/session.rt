@@ -1,4 +1,5 @@
-// What a run holds besides its areas. The terminal stands apart from the rest, which is small and changes with every line.
+// What a run holds besides its areas. The terminal stands apart from the rest, which is small and changes with every
+// line.
 use octets::parts;
 use replay_text::letters::Letters;
 use terminal::Terminal;
@@ -13,8 +14,9 @@ pub struct Lengths {
     pub screens: usize,
 }
 
-// What the next start is given, and whether one was accepted; `line` counts the lines, `held` the bytes of the line that is being read, `length` those of the last
-// one and `whole` whether it is complete, `known` whether it has been carried out, `said` the bytes of output that wait; what is left of the input that was read stands from `at` to `end`,
+// What the next start is given, and whether one was accepted; `line` counts the lines, `held` the bytes of the line
+// that is being read, `length` those of the last one and `whole` whether it is complete, `known` whether it has been
+// carried out, `said` the bytes of output that wait; what is left of the input that was read stands from `at` to `end`,
 // and `done` says that its end was met.
 #[derive(Clone, Copy)]
 pub struct Run {

@@ -60,8 +60,8 @@ pub fn screens(run: Run, read: Arguments, area: &mut [u8], out: &mut [u8]) -> Ru
     run.with_lengths(lengths)
 }
 
-// Appends the bytes that a word spells to the `used` bytes of an area that are in use, and says how many there are then. A word that is wrong or too
-// long appends nothing.
+// Appends the bytes that a word spells to the `used` bytes of an area that are in use, and says how many there are
+// then. A word that is wrong or too long appends nothing.
 fn appended(word: &[u8], area: &mut [u8], used: usize) -> Size {
     let Size::Is(size) = hex::size_of(word) else {
         return Size::Bad;

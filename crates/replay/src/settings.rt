@@ -1,4 +1,5 @@
-// The lines before start, by their first word. Each function knows a group of words and hands any other on to the next group.
+// The lines before start, by their first word. Each function knows a group of words and hands any other on to the next
+// group.
 use super::session::Run;
 use super::setting_lines;
 use octets::{parts, search};
@@ -57,7 +58,8 @@ fn area_lines(
     input_lines(run, line, verb, text, store, given, out)
 }
 
-// Carries out a line that says what the next start is given, unless the line is done. Where it is none of these nothing is done, and `known` is false.
+// Carries out a line that says what the next start is given, unless the line is done. Where it is none of these nothing
+// is done, and `known` is false.
 pub fn line(
     run: Run,
     gathered: &[u8],

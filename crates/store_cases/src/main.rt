@@ -1,33 +1,36 @@
 // Asks images and password files, good and damaged ones, and prints what is found: a line for each case.
 //
-// A case, on standard input: eight bytes (kind 'I' or 'P', lengths of title and query, 0, length of the data in four bytes, lowest
-// first), title, query, data. tools/make-store-cases makes them, and the lines that are expected.
+// A case, on standard input: eight bytes (kind 'I' or 'P', lengths of title and query, 0, length of the data in four
+// bytes, lowest first), title, query, data. tools/make-store-cases makes them, and the lines that are expected.
+// Up to 65,536 bytes are read.
 #![tactic(auto)]
 
-ghost use Rattle.std.specs.Prelude.{◌<◌, length};
+ghost use Rattle.std.specs.Prelude.{◌<◌, length, IfOk};
 
 use image::Found;
-use libc::{STDIN_FILENO, STDOUT_FILENO};
 use octets::{numbers, parts};
 use passwords::Lookup;
+use std::io;
+use std::io::{Read, Write};
 
-fn main() {
-    let mut buffer = io::large_buffer();
-    let n = io::read_full(STDIN_FILENO, &mut buffer);
-    cases(parts::piece(&buffer, 0, n));
+fn main(rt: HostRuntime) -> io::Result<()> {
+    let mut input = Vec::new(rt.alloc());
+    rt.reader().take(65536).read_to_end(&mut input)?;
+    cases(&rt, &input)
 }
 
-fn cases(input: &[u8]) {
+fn cases(rt: &HostRuntime, input: &[u8]) -> io::Result<()> {
     let mut at = 0;
     while at < input.len() {
-        at = case(input, at);
+        at = case(rt, input, at)?;
     }
+    Ok(())
 }
 
 // Prints the line of the case at a place, and answers the place behind it.
-fn case(input: &[u8], at: usize) -> usize
+fn case(rt: &HostRuntime, input: &[u8], at: usize) -> io::Result<usize>
     requires { at < length input.now }
-    ensures { at < result }
+    ensures { IfOk result (λ next. at < next) }
 {
     let end = input.len();
     let head = parts::piece(input, at, 8);
@@ -35,16 +38,16 @@ fn case(input: &[u8], at: usize) -> usize
     let query = parts::sum(title, field(head, 1), end);
     let data = parts::sum(query, field(head, 2), end);
     let next = parts::sum(data, numbers::read32(head, 4) as usize, end);
-    say(parts::piece(input, title, query - title));
-    say(b": ");
+    say(rt, parts::piece(input, title, query - title))?;
+    say(rt, b": ")?;
     let asked = parts::piece(input, query, data - query);
     let bytes = parts::piece(input, data, next - data);
     if field(head, 0) == 73 {
-        image_line(bytes, asked);
+        image_line(rt, bytes, asked)?;
     } else {
-        passwords_line(bytes, asked);
+        passwords_line(rt, bytes, asked)?;
     }
-    next
+    Ok(next)
 }
 
 fn field(head: &[u8], at: usize) -> usize {
@@ -58,54 +61,54 @@ fn wide(byte: u8) -> usize {
     byte as usize
 }
 
-fn image_line(bytes: &[u8], path: &[u8]) {
+fn image_line(rt: &HostRuntime, bytes: &[u8], path: &[u8]) -> io::Result<()> {
     if image::good(bytes) {
-        say(b"image good, ");
+        say(rt, b"image good, ")?;
     } else {
-        say(b"image bad, ");
+        say(rt, b"image bad, ")?;
     }
-    say(path);
+    say(rt, path)?;
     match image::find(bytes, path) {
         Found::At { place, length } => {
-            number(b" at ", place);
-            number(b" length ", length);
+            number(rt, b" at ", place)?;
+            number(rt, b" length ", length)?;
         }
         Found::Nothing => {
-            say(b" missing");
+            say(rt, b" missing")?;
         }
     }
-    say(b"\n");
+    say(rt, b"\n")
 }
 
-fn passwords_line(bytes: &[u8], name: &[u8]) {
+fn passwords_line(rt: &HostRuntime, bytes: &[u8], name: &[u8]) -> io::Result<()> {
     if passwords::well_formed(bytes) {
-        say(b"passwords well formed, ");
+        say(rt, b"passwords well formed, ")?;
     } else {
-        say(b"passwords malformed, ");
+        say(rt, b"passwords malformed, ")?;
     }
-    say(name);
+    say(rt, name)?;
     match passwords::find(bytes, name) {
         Lookup::At {
             number: record,
             digest,
             count,
         } => {
-            number(b" record ", record);
-            number(b", digest at ", digest);
-            number(b", ", count);
+            number(rt, b" record ", record)?;
+            number(rt, b", digest at ", digest)?;
+            number(rt, b", ", count)?;
         }
         Lookup::Nowhere { count } => {
-            number(b" nowhere, ", count);
+            number(rt, b" nowhere, ", count)?;
         }
     }
-    say(b" read\n");
+    say(rt, b" read\n")
 }
 
-fn number(what: &[u8], n: usize) {
-    say(what);
-    io::print_decimal(STDOUT_FILENO, n as u64);
+fn number(rt: &HostRuntime, what: &[u8], n: usize) -> io::Result<()> {
+    say(rt, what)?;
+    print!(rt; "{n}")
 }
 
-fn say(text: &[u8]) {
-    io::write_all(STDOUT_FILENO, text);
+fn say(rt: &HostRuntime, text: &[u8]) -> io::Result<()> {
+    io::writer(rt).write_all(text)
 }

@@ -1,76 +1,74 @@
-// What the program prints: a line for each call, with what was asked, the number and, where it says something, the count.
-use libc::STDOUT_FILENO;
+// What the program prints: a line for each call, with what was asked, the number and, where it says something, the
+// count.
 use octets::{parts, search};
+use std::io;
+use std::io::Write;
 use terminal::Answer;
 
-pub fn say(text: &[u8]) {
-    io::write_all(STDOUT_FILENO, text);
+pub fn say(rt: &HostRuntime, text: &[u8]) -> io::Result<()> {
+    io::writer(rt).write_all(text)
 }
 
-pub fn number(n: usize) {
-    io::print_decimal(STDOUT_FILENO, n as u64);
+pub fn number(rt: &HostRuntime, n: usize) -> io::Result<()> {
+    print!(rt; "{n}")
 }
 
-pub fn title(text: &[u8]) {
-    say(b"\n== ");
-    say(text);
-    say(b"\n");
+pub fn title(rt: &HostRuntime, text: &[u8]) -> io::Result<()> {
+    say(rt, b"\n== ")?;
+    say(rt, text)?;
+    say(rt, b"\n")
 }
 
 // A name and a number.
-pub fn named(what: &[u8], n: usize) {
-    say(b"    ");
-    say(what);
-    say(b" ");
-    number(n);
-    say(b"\n");
+pub fn named(rt: &HostRuntime, what: &[u8], n: usize) -> io::Result<()> {
+    say(rt, b"    ")?;
+    say(rt, what)?;
+    say(rt, b" ")?;
+    number(rt, n)?;
+    say(rt, b"\n")
 }
 
 // One call: what it was, and its number.
-pub fn line(what: &[u8], answer: Answer) {
-    say(what);
-    say(b": ");
-    number(answer.number as usize);
-    say(b"\n");
+pub fn line(rt: &HostRuntime, what: &[u8], answer: Answer) -> io::Result<()> {
+    say(rt, what)?;
+    say(rt, b": ")?;
+    number(rt, answer.number as usize)?;
+    say(rt, b"\n")
 }
 
 // One call: what it was, its number and its count.
-pub fn counted(what: &[u8], answer: Answer) {
-    say(what);
-    say(b": ");
-    number(answer.number as usize);
-    say(b" count ");
-    number(answer.count);
-    say(b"\n");
+pub fn counted(rt: &HostRuntime, what: &[u8], answer: Answer) -> io::Result<()> {
+    say(rt, what)?;
+    say(rt, b": ")?;
+    number(rt, answer.number as usize)?;
+    say(rt, b" count ")?;
+    number(rt, answer.count)?;
+    say(rt, b"\n")
 }
 
 // Bytes, between quotes; one that does not print shows as '.'.
-pub fn bytes(what: &[u8], shown: &[u8]) {
-    say(b"    ");
-    say(what);
-    say(b" \"");
-    let mut i = 0;
-    while i < shown.len() {
-        byte(shown[i]);
-        i += 1;
+pub fn bytes(rt: &HostRuntime, what: &[u8], shown: &[u8]) -> io::Result<()> {
+    say(rt, b"    ")?;
+    say(rt, what)?;
+    say(rt, b" \"")?;
+    for b in shown {
+        byte(rt, *b)?;
     }
-    say(b"\"\n");
+    say(rt, b"\"\n")
 }
 
-fn byte(b: u8) {
+fn byte(rt: &HostRuntime, b: u8) -> io::Result<()> {
     if (b < 32) | (126 < b) {
-        say(b".");
-        return;
+        return say(rt, b".");
     }
     let one = [b; 1];
-    say(&one);
+    say(rt, &one)
 }
 
 // Whether the password table of partition 0 in memory is the file on the store, byte for byte.
-pub fn together(store: &[u8], tables: &[u8]) {
+pub fn together(rt: &HostRuntime, store: &[u8], tables: &[u8]) -> io::Result<()> {
     if search::same(parts::piece(store, 105, 84), parts::piece(tables, 0, 84)) {
-        say(b"    memory's table is the store's file\n");
-        return;
+        return say(rt, b"    memory's table is the store's file\n");
     }
-    say(b"    MEMORY AND STORE DIFFER\n");
+    say(rt, b"    MEMORY AND STORE DIFFER\n")
 }
