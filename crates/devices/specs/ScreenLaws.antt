@@ -1,5 +1,5 @@
 -- Laws of the screen: putting bytes keeps it a screen, and putting a run is putting its parts one after the other.
-use Rattle.std.specs.Prelude.{Bool, true, false, ◌&&◌, List, [], ◌∷◌, ◌++◌, ◌≡◌, refl, ℕ, ◌+◌, ◌-◌, ◌/◌, ◌%◌, ◌≤◌, ◌<◌, eqb, ltb, length, drop, set, get_or}
+use Rattle.std.specs.Prelude.{Bool, true, false, ◌&&◌, List, [], ◌∷◌, ◌++◌, ◌≡◌, refl, ℕ, ◌+◌, ◌/◌, ◌%◌, ◌≤◌, ◌<◌, eqb, ltb, length, drop, set, get_or}
 use Rattle.std.proofs.Common.{sym, ◌∙◌, add-one, arith, length-append, length-drop, length-set, drop-cons, lt-ltb, le-ltb, eq-eqb, ne_eqb, ltb-true, eqb-true}
 use Rattle.std.proofs.lemmas.List.{length-replicate}
 use Rattle.devices.specs.Choice.{by_cond}

@@ -1,7 +1,7 @@
 -- The keyboard's queue: keys in at the back, the oldest out first, 64 at most (document 01, "Calls").
 use Rattle.std.specs.Prelude.{List, [], ◌∷◌, ◌++◌, ◌≡◌, refl, ℕ, replicate}
 use Rattle.octets.specs.Lists.{over, write_at}
-use Rattle.devices.specs.Queue.{no_keys, held, queue, queue_add, takes, queue_drop, Took, took, take_out, queue_take}
+use Rattle.devices.specs.Queue.{no_keys, held, queue, queue_add, takes, queue_drop, Took, take_out, queue_take}
 use Rattle.devices.specs.declared.keyboard.Keyboard.{Keyboard}
 
 abbrev keyboard : List ℕ → ℕ → Keyboard

@@ -1,7 +1,7 @@
 -- Random read and write of a screen: min(request, 2,000 − offset) cells move (document 01, "Calls").
 use Rattle.std.specs.Prelude.{List, [], ◌∷◌, ◌++◌, ◌≡◌, refl, ℕ}
 use Rattle.octets.specs.Lists.{part, over, write_at}
-use Rattle.devices.specs.Screen.{blanks, moved, Transfer, transfer, random_read, read_out, random_write, write_out}
+use Rattle.devices.specs.Screen.{blanks, moved, transfer, random_read, read_out, random_write, write_out}
 
 abbrev five : List ℕ
 five = 10 ∷ 13 ∷ 8 ∷ 0 ∷ 255 ∷ []

@@ -1,4 +1,4 @@
-use Rattle.std.specs.Prelude.{◌≡◌, refl, Bool, true, false, List, [], ◌∷◌, ℕ}
+use Rattle.std.specs.Prelude.{◌≡◌, refl, [], ◌∷◌}
 use Rattle.octets.specs.Lists.{part, over, write_at, on_part, on_nth}
 use Rattle.octets.specs.Same.{same_bytes}
 use Rattle.text.specs.Gaps.{gap_from, token_place, line_feeds, line_of}

@@ -1,5 +1,5 @@
 -- Small password files, judged, searched and changed by computing the definitions: that they say what document 01 says can be seen from these.
-use Rattle.std.specs.Prelude.{true, false, cond, List, [], ◌∷◌, ◌++◌, ◌≡◌, refl, ℕ, zero, suc, ◌+◌, length, take, replicate}
+use Rattle.std.specs.Prelude.{true, false, cond, List, [], ◌∷◌, ◌++◌, ◌≡◌, refl, ℕ, zero, suc, length, take, replicate}
 use Rattle.octets.specs.Lists.{part, over, on_part, on_nth}
 use Rattle.octets.specs.Numbers.{little, spelled}
 use Rattle.octets.specs.Same.{same_bytes}

@@ -1,5 +1,5 @@
 -- What keeps each record's header and length keeps the walk.
-use Rattle.std.specs.Prelude.{Bool, true, false, ◌≡◌, refl, leb, length, take, drop, List, [], ◌∷◌, ◌++◌, map, ℕ, zero, suc, ◌+◌, ◌≤◌, ◌<◌, min}
+use Rattle.std.specs.Prelude.{Bool, true, false, ◌≡◌, refl, leb, length, take, drop, List, [], ◌∷◌, ◌++◌, map, ℕ, zero, suc, ◌≤◌, ◌<◌, min}
 use Rattle.std.proofs.Common.{append-nil, append_assoc, sym, ap, ◌∙◌, arith, leb-true, leb-false, length-take, length-drop, length-append, drop_of_length-le, take-take, take_all, take_at, drop_at}
 use Rattle.std.proofs.Math.Seq.{drop-append_seam}
 use Rattle.std.proofs.lemmas.List.{take-append-le}

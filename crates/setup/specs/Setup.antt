@@ -1,5 +1,5 @@
 -- Document 01, "Set-up text": the set-up as a value.
-use Rattle.std.specs.Prelude.{Bool, false, cond, ◌&&◌, ◌||◌, not, List, [], ◌∷◌, ◌++◌, ℕ, ◌+◌, ◌-◌, ◌/◌, ◌%◌, ◌^◌, min, eqb, ltb, length, take, get_or, replicate, set}
+use Rattle.std.specs.Prelude.{Bool, false, cond, ◌&&◌, ◌||◌, not, List, [], ◌∷◌, ◌++◌, ℕ, ◌+◌, ◌-◌, ◌/◌, ◌%◌, ◌^◌, min, eqb, ltb, take, get_or, replicate, set}
 use Rattle.octets.specs.Lists.{part}
 use Rattle.octets.specs.Same.{same_bytes}
 use Rattle.setup.specs.declared.Span.{Span}

@@ -1,5 +1,5 @@
 -- FIPS 180-4, sections 5.1.1 and 5.2.1: a message is filled up to whole blocks of 512 bits, and taken apart into them.
-use Rattle.std.specs.Prelude.{ℕ, ◌+◌, ◌-◌, ◌*◌, ◌/◌, ◌%◌, ◌^◌, List, ◌∷◌, ◌++◌, length, drop, replicate}
+use Rattle.std.specs.Prelude.{ℕ, ◌-◌, ◌*◌, ◌/◌, ◌%◌, ◌^◌, List, ◌∷◌, ◌++◌, length, drop, replicate}
 use Rattle.sha256.specs.Words.{words_at, bytes_of}
 
 -- 5.1.1: how many zero bytes stand between the byte that begins with the bit 1 and the length of a message of n bytes. `padding-rule`

@@ -1,5 +1,5 @@
 -- What is read from a plan and a state by number, and what a call or an event changes of a state: one definition for each thing that moves.
-use Rattle.std.specs.Prelude.{Bool, true, cond, ◌&&◌, ℕ, ◌+◌, eqb, ltb, get_or, set}
+use Rattle.std.specs.Prelude.{Bool, true, cond, ◌&&◌, ℕ, eqb, ltb, get_or, set}
 use Rattle.devices.specs.declared.keyboard.Keyboard.{Keyboard}
 use Rattle.state.specs.declared.Segment.{Segment}
 use Rattle.state.specs.declared.Seat.{Seat}

@@ -1,6 +1,6 @@
 -- The comment rule twice: read from a place outside comments, every token of a text is that of the text with its comments blanked, and
 -- the place behind it is outside comments again.
-use Rattle.std.specs.Prelude.{Bool, true, false, ◌&&◌, not, ◌≡◌, ℕ, ◌+◌, ◌-◌, eqb, length, take, drop, List, [], ◌∷◌, refl}
+use Rattle.std.specs.Prelude.{Bool, true, false, ◌&&◌, not, ◌≡◌, ℕ, ◌+◌, eqb, length, take, drop, List, [], ◌∷◌, refl}
 use Rattle.std.proofs.Common.{sym, ap, ◌∙◌, eqb-true, ne_eqb, get_or-drop}
 use Rattle.std.proofs.Math.Bool.{and-eq-true_iff}
 use Rattle.std.proofs.lemmas.Bool.{false≢true, eqb-false, not-true}

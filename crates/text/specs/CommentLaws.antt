@@ -1,5 +1,5 @@
 -- Laws of blanked comments: what stays (length, lines, every byte outside comments), and which places are outside comments.
-use Rattle.std.specs.Prelude.{Bool, true, false, cond, not, List, [], ◌∷◌, ◌++◌, ◌⊎◌, ◌≡◌, refl, ℕ, zero, suc, ◌+◌, ◌-◌, ◌≤◌, eqb, length, take, drop}
+use Rattle.std.specs.Prelude.{Bool, true, false, cond, not, List, [], ◌∷◌, ◌++◌, ◌⊎◌, ◌≡◌, refl, ℕ, zero, suc, ◌+◌, ◌≤◌, eqb, length, take, drop}
 use Rattle.std.proofs.Common.{inl, inr, ⊎_elim, sym, ◌∙◌, suc-le-suc, add-zero, zero-add, suc-add, arith, eqb-true, ne_eqb, length-drop, drop_of_length-le, get_or-drop, take-add}
 use Rattle.std.proofs.lemmas.Bool.{false≢true, eqb-false}
 use Rattle.octets.specs.Lists.{part}

@@ -1,5 +1,5 @@
 -- Laws of gaps and lines: a token's place is at or behind the place looked from, inside the text, and no gap goes on there.
-use Rattle.std.specs.Prelude.{Bool, true, false, List, [], ◌∷◌, ◌≡◌, refl, ℕ, zero, suc, ◌+◌, ◌-◌, ◌≤◌, ◌<◌, length, get_or, take, drop}
+use Rattle.std.specs.Prelude.{Bool, true, false, List, [], ◌∷◌, ◌≡◌, refl, ℕ, zero, suc, ◌+◌, ◌≤◌, ◌<◌, length, get_or, take, drop}
 use Rattle.std.proofs.Common.{sym, add-zero, zero-add, suc-add, le_of_suc-le-suc, not-suc-le-zero, arith, length-drop, length-take, get_or-drop}
 use Rattle.std.proofs.Math.Decide.{dec_le}
 use Rattle.std.proofs.Math.ListN.{get_or-eq_default}

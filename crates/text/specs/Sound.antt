@@ -1,5 +1,5 @@
 -- What every token that was read says of the text: it lies inside, reading has gone on, and its numbers are in their limits.
-use Rattle.std.specs.Prelude.{true, List, [], ◌∷◌, ◌≡◌, refl, ℕ, ◌+◌, ◌-◌, ◌*◌, ◌^◌, ◌≤◌, ◌<◌, eqb, length, drop}
+use Rattle.std.specs.Prelude.{true, List, [], ◌∷◌, ◌≡◌, refl, ℕ, ◌+◌, ◌*◌, ◌^◌, ◌≤◌, ◌<◌, eqb, length, drop}
 use Rattle.std.proofs.Common.{mul-le-mul_left, arith, eqb-true}
 use Rattle.std.proofs.Math.Bool.{and-eq-true_iff}
 use Rattle.text.specs.Bytes.{byte_at, is_digit, in_path, in_bare_path}

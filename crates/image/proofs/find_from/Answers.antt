@@ -1,4 +1,4 @@
-use Rattle.std.proofs.Common.{refl, sym, ◌∙◌, ◌-◌, arith}
+use Rattle.std.proofs.Common.{refl, sym, ◌∙◌, arith}
 use Rattle.image.specs.EntryLaws.{item_entry, item_skipped, spot_end, spot-cut, spot_skip, spot_here, spot_on}
 use Rattle.image.proofs.find_from.Goals as goal
 

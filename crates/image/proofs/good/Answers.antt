@@ -1,4 +1,4 @@
-use Rattle.std.proofs.Common.{sym, ◌∙◌, ◌-◌, arith}
+use Rattle.std.proofs.Common.{sym, ◌∙◌, arith}
 use Rattle.image.specs.Image.{good}
 use Rattle.image.specs.EntryLaws.{item_entry, item_skipped, good_end, good-cut, good_skip, good_again, good-on}
 use Rattle.image.proofs.good.Goals as goal

@@ -1,4 +1,4 @@
-use Rattle.std.proofs.Common.{sym, ◌∙◌, ◌-◌, arith, length, zero-add}
+use Rattle.std.proofs.Common.{sym, ◌∙◌, arith, length, zero-add}
 use Rattle.rows.specs.Records.{chunks}
 use Rattle.passwords.specs.WalkLaws.{Taken, taken, ended}
 use Rattle.passwords.specs.PasswordFile.{count}

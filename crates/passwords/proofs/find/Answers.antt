@@ -1,4 +1,4 @@
-use Rattle.std.proofs.Common.{refl, sym, ◌∙◌, ◌-◌, arith}
+use Rattle.std.proofs.Common.{refl, sym, ◌∙◌, arith}
 use Rattle.passwords.specs.WalkLaws.{Taken, taken, ended}
 use Rattle.passwords.specs.PasswordFile.{find}
 use Rattle.passwords.specs.FileLaws.{find_none, find_here, find-on}

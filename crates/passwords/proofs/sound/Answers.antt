@@ -1,4 +1,4 @@
-use Rattle.std.proofs.Common.{sym, ◌∙◌, ◌-◌, arith}
+use Rattle.std.proofs.Common.{sym, ◌∙◌, arith}
 use Rattle.passwords.specs.WalkLaws.{Taken, taken, ended}
 use Rattle.passwords.specs.FileLaws.{fits, sound_few, few_none, few_full, few_fails, few_on}
 use Rattle.passwords.proofs.sound.Goals as goal

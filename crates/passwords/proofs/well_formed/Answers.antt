@@ -1,4 +1,4 @@
-use Rattle.std.proofs.Common.{sym, ◌∙◌, ◌-◌, arith}
+use Rattle.std.proofs.Common.{sym, ◌∙◌, arith}
 use Rattle.passwords.specs.WalkLaws.{Taken, taken, ended}
 use Rattle.passwords.specs.FileLaws.{few_none, few_full, few_fails, few_on, good, well_formed_few, good_disobeys, good_again, good_new, rest_part}
 use Rattle.passwords.proofs.well_formed.Goals as goal

@@ -1,4 +1,4 @@
-use Rattle.std.proofs.Common.{length-set, rules, false, ◌-◌, arith, ◌≡◌, ◌∙◌}
+use Rattle.std.proofs.Common.{length-set, rules, false, arith, ◌≡◌, ◌∙◌}
 use Rattle.setup.specs.Values.{flag_start}
 use Rattle.setup.specs.Values.{flag_step, flag_end}
 use Rattle.setup.proofs.flags.Goals as goal

@@ -1,4 +1,4 @@
-use Rattle.std.proofs.Common.{length-set, rules, ◌-◌, length, replicate, arith, ◌≡◌, refl, ◌∙◌}
+use Rattle.std.proofs.Common.{length-set, rules, length, replicate, arith, ◌≡◌, refl, ◌∙◌}
 use Rattle.setup.specs.Values.{fill_step, fill_end, table-length}
 use Rattle.setup.specs.Reading.{permission_table}
 use Rattle.setup.proofs.permission_table.Goals as goal

@@ -1,4 +1,4 @@
-use Rattle.std.proofs.Common.{◌-◌, arith, refl, sym, ◌∙◌}
+use Rattle.std.proofs.Common.{arith, refl, sym, ◌∙◌}
 use Rattle.setup.specs.Turns.{turn_out, turn-ended, turn-refused, turn_more}
 use Rattle.setup.specs.Reading.{read}
 use Rattle.setup.proofs.read.Goals as goal

@@ -1,4 +1,4 @@
-use Rattle.std.proofs.Common.{◌≤◌, ◌-◌, ◌≡◌}
+use Rattle.std.proofs.Common.{◌≤◌, ◌≡◌}
 use Rattle.setup.specs.Reading.{read_from}
 use Rattle.setup.proofs.read.Given as goal
 

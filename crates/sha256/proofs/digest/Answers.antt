@@ -1,4 +1,4 @@
-use Rattle.std.proofs.Common.{◌≡◌, ◌-◌, add-one, arith}
+use Rattle.std.proofs.Common.{◌≡◌, add-one, arith}
 use Rattle.sha256.specs.Digest.{hash, digest}
 use Rattle.sha256.proofs.Blocks.{count-blocks}
 use Rattle.sha256.proofs.digest.Goals as goal

@@ -1,5 +1,5 @@
 use Rattle.std.proofs.Common.{◌≡◌, ◌-◌, ◌≤◌}
-use Rattle.sha256.specs.Padding.{padded, blocks}
+use Rattle.sha256.specs.Padding.{padded}
 use Rattle.sha256.specs.Digest.{hash}
 use Rattle.sha256.proofs.digest.Given as goal
 

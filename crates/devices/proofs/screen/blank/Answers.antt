@@ -1,4 +1,4 @@
-use Rattle.std.proofs.Common.{append-nil, ◌≡◌, refl, ◌∙◌, ◌-◌, arith, length, length-set}
+use Rattle.std.proofs.Common.{append-nil, ◌≡◌, refl, ◌∙◌, arith, length, length-set}
 use Rattle.std.proofs.Math.Seq.{drop-length}
 use borrow.Author.Fill.{fill_more}
 use Rattle.devices.proofs.screen.blank.Goals as goal

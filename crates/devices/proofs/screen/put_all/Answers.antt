@@ -1,4 +1,4 @@
-use Rattle.std.proofs.Common.{List, ◌≡◌, refl, sym, subst, ◌∙◌, ℕ, ◌+◌, ◌-◌, ◌≤◌, ◌<◌, arith, length, drop, get_or, drop_of_length-le}
+use Rattle.std.proofs.Common.{List, ◌≡◌, refl, sym, subst, ◌∙◌, ℕ, ◌+◌, ◌≤◌, ◌<◌, arith, length, drop, get_or, drop_of_length-le}
 use Rattle.devices.specs.Screen.{Screen, screen, put, put_all}
 use Rattle.devices.specs.ScreenLaws.{IsScreen, put-screen, put_all-none, put_all-from, on_screen-is, on_screen-other, on_screen-away}
 use Rattle.devices.proofs.screen.put_all.Goals as goal

@@ -1,4 +1,4 @@
-use Rattle.std.proofs.Common.{List, ◌++◌, append_assoc, ◌≡◌, refl, ◌∙◌, ℕ, suc, ◌+◌, ◌-◌, ◌≤◌, ◌<◌, add_comm, add-one, arith, length, take, drop, get_or, set, length-drop, length-set, length-take-le, get_or-append-add, get_or-drop, drop-cons, take-suc, take_all}
+use Rattle.std.proofs.Common.{List, ◌++◌, append_assoc, ◌≡◌, refl, ◌∙◌, ℕ, suc, ◌+◌, ◌≤◌, ◌<◌, add_comm, add-one, arith, length, take, drop, get_or, set, length-drop, length-set, length-take-le, get_or-append-add, get_or-drop, drop-cons, take-suc, take_all}
 use Rattle.std.proofs.Math.Seq.{set_at}
 use Rattle.devices.proofs.screen.raise.Goals as goal
 

@@ -1,6 +1,6 @@
 -- `devices::screen::raise` meets its contract. The loop's invariant: the first i cells are those of the row below, the others as they were.
 -- The measure is what is left of the 1,920. Assumes nothing.
-use Rattle.std.proofs.Common.{◌++◌, ◌≡◌, ◌+◌, ◌-◌, ◌≤◌, length, take, drop}
+use Rattle.std.proofs.Common.{◌++◌, ◌≡◌, ◌-◌, ◌≤◌, length, take, drop}
 use Rattle.devices.proofs.screen.raise.Given as goal
 
 abbrev pub invariant-loop-i : goal.invariant-loop-i

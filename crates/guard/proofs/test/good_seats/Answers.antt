@@ -1,4 +1,4 @@
-use Rattle.std.proofs.Common.{rules, arith, ◌≡◌, refl, ◌-◌, length}
+use Rattle.std.proofs.Common.{rules, arith, ◌≡◌, refl, length}
 use Rattle.guard.specs.Test.{all_of}
 use Rattle.guard.specs.TestLaws.{all_of-step, all_of_end}
 use Rattle.guard.proofs.test.good_seats.Goals as goal

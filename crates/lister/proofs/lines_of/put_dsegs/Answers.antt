@@ -1,4 +1,4 @@
-use Rattle.std.proofs.Common.{◌≡◌, refl, ap, ◌∙◌, arith, ◌-◌, min}
+use Rattle.std.proofs.Common.{◌≡◌, refl, ap, ◌∙◌, arith, min}
 use Rattle.lines.specs.Laws.{kept, nothing, behind, called}
 use Rattle.lister.specs.Listing.{dseg_lines}
 use Rattle.lister.specs.Laws.{dseg-more}

@@ -1,4 +1,4 @@
-use Rattle.std.proofs.Common.{◌≡◌, ap, ◌∙◌, arith, ◌-◌}
+use Rattle.std.proofs.Common.{◌≡◌, ap, ◌∙◌, arith}
 use Rattle.lines.specs.Laws.{kept, nothing, behind, called}
 use Rattle.lister.specs.Listing.{partition_lines}
 use Rattle.lister.specs.Laws.{partition_more}

@@ -1,4 +1,4 @@
-use Rattle.std.proofs.Common.{refl, sym, ◌∙◌, ◌-◌}
+use Rattle.std.proofs.Common.{refl, sym, ◌∙◌}
 use Rattle.lister.specs.Laws.{letters_end, letters_stop, letters_more}
 use Rattle.lister.proofs.row.only_letters.Goals as goal
 

@@ -1,5 +1,5 @@
 -- `octets::search::find` meets its contract: a place that is passed over adds one, and the first that matches adds nothing. Assumes nothing.
-use Rattle.std.proofs.Common.{◌∷◌, ◌≡◌, refl, sym, ap, ◌∙◌, ℕ, suc, ◌+◌, ◌≤◌, ◌<◌, List, length, get_or, drop, add-one, arith, add-zero, zero-add, drop-cons, drop_of_length-le, eq-eqb, ne_eqb}
+use Rattle.std.proofs.Common.{◌≡◌, sym, ap, ◌∙◌, ℕ, suc, ◌+◌, ◌≤◌, ◌<◌, List, length, get_or, drop, add-one, arith, add-zero, zero-add, drop-cons, drop_of_length-le, eq-eqb, ne_eqb}
 use Rattle.octets.specs.Search.{index_of, index_after}
 use Rattle.octets.proofs.search.find.Goals as goal
 

@@ -1,4 +1,4 @@
-use Rattle.std.proofs.Common.{refl, sym, ◌∙◌, ◌-◌}
+use Rattle.std.proofs.Common.{refl, sym, ◌∙◌}
 use Rattle.replay_text.specs.Hex.{is_hex, all_hex}
 use Rattle.replay_text.specs.RowLaws.{all_end, all_stop, all_step}
 use Rattle.replay_text.proofs.hex.all_hex.Goals as goal

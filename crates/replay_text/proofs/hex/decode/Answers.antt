@@ -1,4 +1,4 @@
-use Rattle.std.proofs.Common.{◌≡◌, refl, sym, ◌∙◌, ◌*◌, ◌/◌, ◌+◌, ◌-◌, ◌<◌, arith, length, get_or, length-set}
+use Rattle.std.proofs.Common.{◌≡◌, refl, sym, ◌∙◌, ◌*◌, ◌/◌, ◌+◌, ◌<◌, arith, length, get_or, length-set}
 use Rattle.octets.specs.WriteLaws.{write_at-nil}
 use Rattle.replay_text.specs.Hex.{bytes_of}
 use Rattle.replay_text.specs.HexLaws.{byte_at, length-bytes, worth-small}

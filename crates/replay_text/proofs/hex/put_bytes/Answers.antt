@@ -1,4 +1,4 @@
-use Rattle.std.proofs.Common.{◌≡◌, refl, sym, ◌*◌, ◌-◌, ◌<◌, arith, length, length-set}
+use Rattle.std.proofs.Common.{◌≡◌, refl, sym, ◌*◌, ◌<◌, arith, length, length-set}
 use Rattle.octets.specs.WriteLaws.{write_at-nil}
 use Rattle.lines.specs.Laws.{called}
 use Rattle.lines.specs.Wrote.{most}

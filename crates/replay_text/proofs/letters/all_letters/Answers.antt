@@ -1,4 +1,4 @@
-use Rattle.std.proofs.Common.{◌||◌, refl, sym, ◌∙◌, ◌-◌, eqb}
+use Rattle.std.proofs.Common.{◌||◌, refl, sym, ◌∙◌, eqb}
 use Rattle.replay_text.specs.Letters.{all_letters}
 use Rattle.replay_text.specs.RowLaws.{all_end, all_stop, all_step}
 use Rattle.replay_text.proofs.letters.all_letters.Goals as goal

@@ -1,4 +1,4 @@
-use Rattle.std.proofs.Common.{false, ◌≡◌, sym, ◌∙◌, ◌-◌, ◌<◌, zero-add, arith, length, replicate}
+use Rattle.std.proofs.Common.{false, ◌≡◌, sym, ◌∙◌, ◌<◌, zero-add, arith, length, replicate}
 use Rattle.octets.specs.WriteLaws.{write_at-nil, write_at-zero}
 use Rattle.replay_text.specs.Letters.{flags}
 use Rattle.replay_text.specs.LetterLaws.{flag_at, length-flags}

@@ -1,5 +1,5 @@
 -- `replay_text::words::before` meets its contract: from a place behind the end nothing is left. Assumes nothing.
-use Rattle.std.proofs.Common.{List, ℕ, ◌≡◌, sym, ◌∙◌, ◌+◌, ◌-◌, ◌≤◌, min, arith, length, length-drop, take, take_all, drop}
+use Rattle.std.proofs.Common.{List, ℕ, ◌≡◌, sym, ◌∙◌, ◌+◌, ◌-◌, min, arith, length, length-drop, take, take_all, drop}
 use Rattle.std.proofs.Math.Nat.{add-sub_cancel_left}
 use Rattle.std.proofs.Math.Seq.{take-length}
 use Rattle.octets.specs.Search.{index_of, slice}

@@ -1,4 +1,4 @@
-use Rattle.std.proofs.Common.{◌-◌, length, arith, ◌≡◌, refl, rules}
+use Rattle.std.proofs.Common.{length, arith, ◌≡◌, refl, rules}
 use Rattle.setup.specs.Values.{code_out}
 use Rattle.setup.specs.Setup.{has_code}
 use Rattle.setup.proofs.Setup.has_code.Goals as goal

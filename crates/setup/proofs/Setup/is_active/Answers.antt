@@ -1,4 +1,4 @@
-use Rattle.std.proofs.Common.{◌-◌, length, arith, ◌≡◌, refl, rules}
+use Rattle.std.proofs.Common.{length, arith, ◌≡◌, refl, rules}
 use Rattle.setup.specs.Values.{active_out}
 use Rattle.setup.specs.Setup.{is_active}
 use Rattle.setup.proofs.Setup.is_active.Goals as goal

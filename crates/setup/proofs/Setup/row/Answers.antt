@@ -1,4 +1,4 @@
-use Rattle.std.proofs.Common.{◌-◌, length, arith, ◌≡◌, rules}
+use Rattle.std.proofs.Common.{length, arith, ◌≡◌, rules}
 use Rattle.setup.specs.Values.{blank}
 use Rattle.setup.specs.Values.{row-dseg, row-mseg, row-behind}
 use Rattle.setup.proofs.Setup.row.Goals as goal

@@ -1,4 +1,4 @@
-use Rattle.std.proofs.Common.{◌-◌, length, arith, ◌≡◌, refl, rules}
+use Rattle.std.proofs.Common.{length, arith, ◌≡◌, refl, rules}
 use Rattle.setup.specs.Values.{code-kept}
 use Rattle.setup.specs.Setup.{with_code}
 use Rattle.setup.proofs.Setup.with_code.Goals as goal

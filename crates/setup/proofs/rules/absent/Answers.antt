@@ -1,4 +1,4 @@
-use Rattle.std.proofs.Common.{◌-◌, sym, ◌∙◌}
+use Rattle.std.proofs.Common.{sym, ◌∙◌}
 use Rattle.setup.specs.Values.{absent-unasked, absent_asked}
 use Rattle.image.specs.Image.{was_found}
 use Rattle.setup.proofs.rules.absent.Goals as goal

@@ -1,5 +1,5 @@
 use Rattle.setup.specs.Values.{blank}
-use Rattle.std.proofs.Common.{rules, ◌-◌, length, arith, ◌≡◌, refl, sym, ◌∙◌}
+use Rattle.std.proofs.Common.{rules, length, arith, ◌≡◌, refl, sym, ◌∙◌}
 use Rattle.setup.specs.Values.{dseg-step, dseg_end}
 use Rattle.setup.proofs.rules.among_dsegs.Goals as goal
 

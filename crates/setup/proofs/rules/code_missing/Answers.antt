@@ -1,4 +1,4 @@
-use Rattle.std.proofs.Common.{add-one, ◌-◌, arith, ◌≡◌, refl}
+use Rattle.std.proofs.Common.{add-one, arith, ◌≡◌, refl}
 use Rattle.setup.specs.Rules.{code_missing}
 use Rattle.setup.proofs.rules.code_missing.Goals as goal
 

@@ -1,4 +1,4 @@
-use Rattle.std.proofs.Common.{◌-◌, arith}
+use Rattle.std.proofs.Common.{arith}
 use Rattle.setup.specs.Values.{no_permission, permission_far, permission-near}
 use Rattle.setup.proofs.rules.permission_of.Goals as goal
 

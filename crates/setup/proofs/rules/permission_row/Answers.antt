@@ -1,4 +1,3 @@
-use Rattle.std.proofs.Common.{◌-◌}
 use Rattle.setup.specs.Setup.{permission_row}
 use Rattle.setup.proofs.rules.permission_row.Goals as goal
 

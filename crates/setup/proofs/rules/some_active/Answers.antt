@@ -1,4 +1,4 @@
-use Rattle.std.proofs.Common.{add-one, ◌-◌, arith, ◌≡◌, refl}
+use Rattle.std.proofs.Common.{add-one, arith, ◌≡◌, refl}
 use Rattle.setup.specs.Rules.{some_active}
 use Rattle.setup.proofs.rules.some_active.Goals as goal
 

@@ -1,4 +1,4 @@
-use Rattle.std.proofs.Common.{add-one, ◌-◌, arith, ◌≡◌, refl}
+use Rattle.std.proofs.Common.{add-one, arith, ◌≡◌, refl}
 use Rattle.setup.specs.Rules.{some_writes}
 use Rattle.setup.proofs.rules.some_writes.Goals as goal
 

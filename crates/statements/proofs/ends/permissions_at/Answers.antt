@@ -1,4 +1,4 @@
-use Rattle.std.proofs.Common.{sym, ◌∙◌, ◌-◌, arith}
+use Rattle.std.proofs.Common.{sym, ◌∙◌, arith}
 use Rattle.statements.specs.Rows.{row_all, row_out, row_end, row-bad, row_more}
 use Rattle.statements.proofs.ends.permissions_at.Goals as goal
 

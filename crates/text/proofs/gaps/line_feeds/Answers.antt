@@ -1,4 +1,4 @@
-use Rattle.std.proofs.Common.{◌-◌, arith, get_or}
+use Rattle.std.proofs.Common.{arith, get_or}
 use Rattle.text.specs.Steps.{feed-le, feeds_end, feeds_step}
 use Rattle.text.proofs.gaps.line_feeds.Goals as goal
 

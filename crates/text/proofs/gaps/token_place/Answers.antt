@@ -1,4 +1,4 @@
-use Rattle.std.proofs.Common.{refl, sym, ◌∙◌, ◌-◌}
+use Rattle.std.proofs.Common.{refl, sym, ◌∙◌}
 use Rattle.text.specs.Gaps.{token_place}
 use Rattle.text.specs.Steps.{gap_end, gap_stop, gap_step}
 use Rattle.text.proofs.gaps.token_place.Goals as goal

@@ -1,4 +1,4 @@
-use Rattle.std.proofs.Common.{refl, sym, ◌∙◌, ◌-◌}
+use Rattle.std.proofs.Common.{refl, sym, ◌∙◌}
 use Rattle.text.specs.Steps.{of_class, run_end, run_stop, run_step}
 use Rattle.text.proofs.runs.behind.Goals as goal
 

@@ -1,4 +1,4 @@
-use Rattle.std.proofs.Common.{refl, ◌∙◌, ◌-◌, arith}
+use Rattle.std.proofs.Common.{refl, ◌∙◌, arith}
 use Rattle.text.specs.Steps.{decimal_end, decimal_step}
 use Rattle.text.proofs.runs.decimal.Goals as goal
 

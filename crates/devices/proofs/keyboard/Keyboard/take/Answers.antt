@@ -1,5 +1,5 @@
 -- `devices::keyboard::Keyboard::take` meets its contract: what is left, laid over zeros, is what is left with zeros behind. Assumes nothing.
-use Rattle.std.proofs.Common.{List, ◌++◌, ◌≡◌, ℕ, ◌+◌, ◌-◌, ◌≤◌, min, arith, length, drop, replicate, length-drop, take_all, take-take, rules}
+use Rattle.std.proofs.Common.{List, ◌++◌, ◌≡◌, ℕ, ◌-◌, ◌≤◌, min, arith, length, drop, replicate, length-drop, take_all, take-take, rules}
 use Rattle.std.proofs.Math.ListN.{length-replicate}
 use Rattle.octets.specs.Lists.{part, write_at}
 use Rattle.octets.specs.PartLaws.{part_def}
