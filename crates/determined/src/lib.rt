@@ -1,2 +1,2 @@
-// This crate has no code: its theorems are in specs/.
+// This crate has no code: its theorems are in specs/ and proofs/.
 #![tactic(auto)]

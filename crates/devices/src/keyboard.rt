@@ -29,8 +29,7 @@ fn store_key(queue: &mut Keyboard, key: u8)
     queue.held = at + 1;
 }
 
-// The same on a queue by value, so that whoever calls this meets no reference to a struct, which the checker does not
-// follow by itself: this function and `store_key` are walked by hand, and nothing above them.
+// The same on a queue by value: it lends a copy of its own.
 fn stored(queue: Keyboard, key: u8) -> Keyboard
     requires { queue.held < 64 }
     ensures { result ≡ queue_add key queue }

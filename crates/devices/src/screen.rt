@@ -53,6 +53,7 @@ fn next_row(cells: &mut [u8], cursor: usize) -> usize
 }
 
 // Puts one byte on what is a screen.
+#[tactic(auto, unfolding(crate::specs::Screen::put, crate::specs::Screen::placed, crate::specs::Screen::advance, crate::specs::Screen::back, crate::specs::Screen::row, crate::specs::Screen::column))]
 fn put_one(cells: &mut [u8], cursor: usize, byte: u8) -> usize
     requires cells_len { length cells.old ≡ 2000 }
     requires cursor_bound { cursor < 2000 }

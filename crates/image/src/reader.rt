@@ -1,7 +1,7 @@
 // The reader of an image: a struct that holds the image and keeps the place of the next record (document 01, "What shape each place takes").
 //
-// The checker makes no proof of a function over such a struct: those here are proved by hand, statement by statement. So they are few and thin, no other
-// file sees a reader, and the work is left to `item_at`. Whoever walks an image calls `read`, which takes and returns plain values.
+// The functions over it are few and thin, no other file sees a reader, and the work is left to `item_at`. Whoever walks an image calls `read`, which takes
+// and returns plain values.
 ghost use Rattle.std.specs.Prelude.{◌≡◌};
 ghost use Rattle.rows.specs.Steps.{first_place};
 ghost use Rattle.image.specs.Items.{item_at};

@@ -8,6 +8,7 @@ ghost use Rattle.sha256.specs.Padding.{block as Padding·block};
 ghost use Rattle.sha256.specs.Marked.{marked, closing};
 
 // How many blocks a message of n bytes fills, padded.
+#[tactic(auto, unfolding(crate::specs::Padding::zeros))]
 pub(crate) fn count(n: usize) -> usize
     ensures { result ≡ (n + 1 + zeros n + 8) / 64 }
 {
