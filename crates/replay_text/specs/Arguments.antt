@@ -32,8 +32,8 @@ unfoldable pub limit : ℕ → ℕ
 limit kind = cond (eqb kind 108) 4096 (cond (eqb kind 97) 65536 4294967295)
 
 unfoldable pub of_number : ℕ → Number → Arguments → Arguments
-of_number most (number.Is v) a = cond (ltb most v) (refused a) (with_number v a)
-of_number most number.Bad a = refused a
+of_number top (number.Is v) a = cond (ltb top v) (refused a) (with_number v a)
+of_number top number.Bad a = refused a
 
 -- one of two words: 1 for the first, 0 for the second
 unfoldable pub choice : List ℕ → List ℕ → List ℕ → Arguments → Arguments
