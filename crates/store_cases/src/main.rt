@@ -14,9 +14,9 @@ use std::io;
 use std::io::{Read, Write};
 
 fn main(rt: HostRuntime) -> io::Result<()> {
-    let mut input = Vec::new(rt.alloc());
-    rt.reader().take(65536).read_to_end(&mut input)?;
-    cases(&rt, &input)
+    let mut input = [0u8; 65536];
+    let n = io::copy(&mut rt.reader().take(65536), &mut &mut input[..])?;
+    cases(&rt, parts::piece(&input, 0, n as usize))
 }
 
 fn cases(rt: &HostRuntime, input: &[u8]) -> io::Result<()> {
