@@ -1,2 +1,2 @@
-// This crate has no code: its definitions are in specs/, its theorems there and in proofs/.
+// This crate has no code: its theorems are in specs/.
 #![tactic(auto)]

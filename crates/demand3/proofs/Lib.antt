@@ -1,2 +1,0 @@
--- What is proved of two whole runs from start.
-pub mod Demand3
