@@ -2,7 +2,7 @@
 use Rattle.std.specs.Prelude.{ℕ, ◌-◌, ◌*◌, ◌/◌, ◌%◌, ◌^◌, List, ◌∷◌, ◌++◌, length, drop, replicate}
 use Rattle.sha256.specs.Words.{words_at, bytes_of}
 
--- 5.1.1: how many zero bytes stand between the byte that begins with the bit 1 and the length of a message of n bytes. `padding-rule`
+-- 5.1.1: how many zero bytes stand between the byte that begins with the bit 1 and the length of a message of n bytes. `padding_rule`
 -- of Laws says that this is the standard's smallest solution
 unfoldable pub zeros : ℕ → ℕ
 zeros n = (119 - n % 64) % 64

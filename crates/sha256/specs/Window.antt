@@ -1,5 +1,5 @@
 -- The schedule as the code holds it: sixteen words at a time. Beside the first t words of W the rounds need only W(t) to W(t + 15),
--- from which W(t + 16) comes. `sixteen-at-a-time` of Laws says that this is FIPS 180-4's schedule.
+-- from which W(t + 16) comes. `sixteen_at-a_time` of Laws says that this is FIPS 180-4's schedule.
 use Rattle.std.specs.Prelude.{ℕ, ◌*◌, List, [], ◌∷◌, ◌++◌, take, drop, slice_index}
 use Rattle.sha256.specs.Constants.{K}
 use Rattle.sha256.specs.Compression.{next_word, round}
