@@ -77,6 +77,7 @@ fn failed(held: LoginRecord, count: usize) -> Attempt
 }
 
 // Compares a password's digest with the one that stands in the record found.
+#[tactic(auto, unfolding(crate::specs::Login::tried, crate::specs::Login::digested))]
 fn compared(
     held: LoginRecord,
     table: &[u8],

@@ -126,6 +126,7 @@ fn entry_of(segment: Segment, store: &[u8], right: u8, row: u32) -> [u8; 80]
 }
 
 // Lays a row's entry behind `count` others, where the partition has a right to the segment, and says how many there are then.
+#[tactic(auto, using(crate::proofs::RowRules::row_rules))]
 fn put_row(
     segment: Segment,
     right: u8,

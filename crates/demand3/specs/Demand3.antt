@@ -1,7 +1,6 @@
 -- Demand 3, from start: "Run two terminals that start alike and receive like events and calls, except for the digests in one active partition's password file and the
 -- passwords in that partition's login and set-password calls."
 use Rattle.std.specs.Prelude.{Bool, true, false, List, map, ◌≡◌, ℕ, ◌<◌, get_or}
-use Rattle.std.proofs.Common.{sym, ◌∙◌}
 use Rattle.terminal.specs.declared.Terminal.{Terminal}
 use Rattle.terminal.specs.Start.{Start, start}
 use Rattle.steps.specs.World.{World, Move, run}
@@ -12,7 +11,7 @@ use Rattle.silence.specs.Runs.{AllAlike, AllSeenAlike}
 use Rattle.silence.specs.SecondHalf.{FairRuns}
 use Rattle.demand3.specs.Images.{mask_image}
 use Rattle.demand3.specs.Answers.{same_number, same_line, both-refused}
-use Rattle.demand3.specs.Starts.{started-active, starts-alike}
+use Rattle.demand3.specs.Starts.{started-active, alike-good, starts-alike}
 use Rattle.demand3.specs.Runs.{good-worlds-alike, good-worlds-same}
 
 -- No theorem here is proved by another that a weaker premise makes fall, so that an edit of a premise is refused at each of them.
@@ -51,9 +50,7 @@ module _ (t : Terminal) (count : ℕ) (active : List Bool) (soft : Bool) (text a
       good-one = start-good t count active soft text store arena tables screens permissions accepted
 
       good-two : Good two
-      good-two =
-          start-good t count active soft text other arena tables screens permissions
-          (sym (same_number t count active soft text arena tables screens permissions q store other like) ∙ accepted)
+      good-two = alike-good t count active soft text arena tables screens permissions q store other like accepted
 
       -- the two terminals look alike at the start
       pub worlds-alike : (login : Bool) → mask login q one ≡ mask login q two
@@ -64,8 +61,7 @@ module _ (t : Terminal) (count : ℕ) (active : List Bool) (soft : Bool) (text a
       pub demand_3 : (ms ns : List Move) → AllAlike q ms ns → AllSeenAlike q ms (run one ms) (run two ns)
       demand_3 ms ns =
           good-worlds-alike q one two good-one
-          (start-good t count active soft text other arena tables screens permissions
-          (sym (same_number t count active soft text arena tables screens permissions q store other like) ∙ accepted))
+          (alike-good t count active soft text arena tables screens permissions q store other like accepted)
           (started-active t count active soft text arena tables screens permissions store q accepted low flag) ms ns
           (starts-alike t count active soft text arena tables screens permissions q low flag false store other like accepted)
 
@@ -74,7 +70,6 @@ module _ (t : Terminal) (count : ℕ) (active : List Bool) (soft : Bool) (text a
       pub demand_3_fair : (ms ns : List Move) → FairRuns q one two ms ns → map (mask_result true q) (run one ms) ≡ map (mask_result true q) (run two ns)
       demand_3_fair ms ns =
           good-worlds-same q one two good-one
-          (start-good t count active soft text other arena tables screens permissions
-          (sym (same_number t count active soft text arena tables screens permissions q store other like) ∙ accepted))
+          (alike-good t count active soft text arena tables screens permissions q store other like accepted)
           (started-active t count active soft text arena tables screens permissions store q accepted low flag) ms ns
           (starts-alike t count active soft text arena tables screens permissions q low flag true store other like accepted)

@@ -17,7 +17,8 @@ use Rattle.started.specs.Accepted.{Accepted, kept_of, setup_of, all_filled, acce
 use Rattle.started.specs.Plan.{plan-active}
 use Rattle.started.specs.Tested.{some-count, flag_kept}
 use Rattle.started.specs.FirstWorld.{world_from}
-use Rattle.started.specs.Start.{world_of}
+use Rattle.good.specs.Good.{Good}
+use Rattle.started.specs.Start.{world_of, start-good}
 use Rattle.silence.specs.Mask.{mask}
 use Rattle.demand3.specs.Images.{mask_image}
 use Rattle.demand3.specs.ImageLaws.{length-image}
@@ -70,6 +71,12 @@ module _ (t : Terminal) (count : ℕ) (active : List Bool) (soft : Bool) (text a
       ap (λ (w : World). is_active w.terminal.plan q) (world-at store z) ∙ in_plan store q (is_ok store z) low flag
 
   -- ---- behind the mask
+
+  -- a start that is alike to an accepted one leaves a good world
+  pub alike-good : (q : ℕ) (store other : List ℕ) → mask_image q store ≡ mask_image q other → (from store).started.number ≡ 0 → Good (world_after other)
+  alike-good q store other like accepted =
+      start-good t count active soft text other arena tables screens permissions
+      (sym (same_number t count active soft text arena tables screens permissions q store other like) ∙ accepted)
 
   module _ (q : ℕ) (low : q < count) (flag : get_or active q false ≡ true) where
     setup_masked : (store : List ℕ) → setup_from (mask_image q store) ≡ setup_from store

@@ -43,6 +43,7 @@ fn behind(plan: Plan, p: usize) -> usize
 }
 
 // The first active partition behind p, round: p itself where there is no other.
+#[tactic(auto, unfolding(crate::specs::Events::seek))]
 fn seek(plan: Plan, p: usize) -> usize
     ensures { result ≡ seek 8 plan (behind plan p) }
 {

@@ -151,6 +151,7 @@ fn argument(sofar: Arguments, kind: u8, word: &[u8], given: &mut [u8]) -> Argume
 }
 
 // Reads the words from place `at` on. They have to be as many as the pattern has letters: a word that is missing is read as an empty one, which no kind allows.
+#[tactic(auto, using(crate::specs::ArgumentLaws::read_end_lem, crate::specs::ArgumentLaws::read_left))]
 pub fn read(pattern: &[u8], line: &[u8], at: usize, given: &mut [u8]) -> Arguments
     ensures { told result given.new ≡ arguments_of pattern.now line.now at given.old }
 {

@@ -55,6 +55,7 @@ fn permissions_at(text: &[u8], at: usize) -> Permissions
 }
 
 // `, host, permissions };`, with one permission at least.
+#[tactic(auto, unfolding(crate::specs::Statements::tail_at))]
 pub fn tail_at(text: &[u8], at: usize) -> Tail
     ensures { result ≡ tail_at text.now at }
 {

@@ -1,7 +1,7 @@
 use Rattle.std.proofs.Common.{refl, sym, ap, ◌∙◌, ◌+◌, ◌<◌, arith, length, drop, length-drop}
 use Rattle.replay_text.specs.Arguments.{most, arguments_of, read_words, words_from}
 use Rattle.replay_text.specs.WordLaws.{index_le}
-use Rattle.replay_text.specs.ArgumentLaws.{read_step, read_end_lem, read_left}
+use Rattle.replay_text.specs.ArgumentLaws.{read_step}
 use Rattle.replay_text.proofs.arguments.read.Goals as goal
 
 pub loop-i-init : goal.loop-i-init
@@ -25,21 +25,3 @@ loop-i-preserved c = let room : length c.args.line.now < most = omega arith in
           ∙ ap (read_words (drop (loop.i + 1) args.pattern.now) (words_from args.line.now c.sum-place.result)) (sym c.argument-next.ensures)),
       omega arith,
     )
-
-pub shape_of-given-then-line-place : goal.shape_of-given-then-line-place
-shape_of-given-then-line-place c = c.loop-i.invariant.1
-
-pub returns-then-line-place : goal.returns-then-line-place
-returns-then-line-place c = let args = c.args in
-    let loop = c.loop-i in
-    sym (loop.invariant.0 ∙ read_end_lem args.pattern.now loop.i args.line.now loop.place _ c.loop-i-test.false c.if-line-place.true)
-
-pub shape_of-given : goal.shape_of-given
-shape_of-given c = c.loop-i.invariant.1
-
-pub returns : goal.returns
-returns c = let args = c.args in
-    let loop = c.loop-i in
-    rw c.refused.ensures
-    (sym (loop.invariant.0
-    ∙ read_left args.pattern.now loop.i args.line.now loop.place loop.sofar loop.given c.loop-i-test.false c.if-line-place.false))

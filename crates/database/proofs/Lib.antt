@@ -1,0 +1,2 @@
+-- What the tactics are handed.
+pub mod RowRules
