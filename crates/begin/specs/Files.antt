@@ -3,9 +3,10 @@ use Rattle.std.specs.Prelude.{cond, List, [], ◌∷◌, ℕ, ◌+◌, ltb, get_
 use Rattle.image.specs.Image.{spot}
 use Rattle.image.specs.declared.Found.{Found}
 use Rattle.image.specs.declared.Found.TheVariants.{At, Nothing}
-use Rattle.setup.specs.declared.Span.{Span}
+use Rattle.octets.specs.declared.span.Span.{Span}
 use Rattle.setup.specs.declared.Setup.{Setup}
-use Rattle.setup.specs.Setup.{no_span, span, no_segment, is_active, bytes_of}
+use Rattle.octets.specs.Spans.{no_span, span, bytes_of}
+use Rattle.setup.specs.Setup.{no_segment, is_active}
 use Rattle.begin.specs.Each.{firsts}
 
 -- "Password file of partition p: path "/scos/pw" and the digit p."

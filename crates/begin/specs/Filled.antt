@@ -1,7 +1,7 @@
 -- What start writes into the lent areas (document 01, "Set-up text"), from its plan.
 use Rattle.std.specs.Prelude.{cond, List, ℕ, zero, suc, ◌*◌, ltb, replicate}
 use Rattle.octets.specs.Lists.{part, write_at}
-use Rattle.setup.specs.declared.Span.{Span}
+use Rattle.octets.specs.declared.span.Span.{Span}
 use Rattle.state.specs.declared.Plan.{Plan}
 use Rattle.state.specs.Parts.{segment_at, seat_at, is_active}
 use Rattle.begin.specs.Each.{joined}

@@ -4,9 +4,10 @@ use Rattle.std.proofs.Common.{add-one, arith, lt-ltb, le-ltb}
 use Rattle.std.proofs.Math.Decide.{dec_le}
 use Rattle.passwords.specs.PasswordFile.{well_formed}
 use Rattle.rows.specs.LikeLaws.{by_test}
-use Rattle.setup.specs.declared.Span.{Span}
+use Rattle.octets.specs.declared.span.Span.{Span}
 use Rattle.setup.specs.declared.Setup.{Setup}
-use Rattle.setup.specs.Setup.{no_span, is_active}
+use Rattle.octets.specs.Spans.{no_span}
+use Rattle.setup.specs.Setup.{is_active}
 use Rattle.begin.specs.Each.{total}
 use Rattle.begin.specs.EachLaws.{total-more, get_or-firsts}
 use Rattle.begin.specs.Files.{password_path, password_file, password_files}

@@ -1,8 +1,9 @@
 -- What start fixes (document 01, "Set-up text"): the places of segments and password tables, and the first state.
 use Rattle.std.specs.Prelude.{Bool, true, false, cond, List, ℕ, zero, suc, ◌+◌, ◌-◌, ltb, get_or, replicate}
-use Rattle.setup.specs.declared.Span.{Span}
+use Rattle.octets.specs.declared.span.Span.{Span}
 use Rattle.setup.specs.declared.Setup.{Setup}
-use Rattle.setup.specs.Setup.{no_span, span, is_active}
+use Rattle.octets.specs.Spans.{no_span, span}
+use Rattle.setup.specs.Setup.{is_active}
 use Rattle.setup.specs.Setup.{no_segment as undeclared}
 use Rattle.state.specs.declared.Kept.{Kept}
 use Rattle.state.specs.declared.Segment.{Segment}

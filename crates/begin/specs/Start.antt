@@ -5,7 +5,7 @@ use Rattle.checks.specs.Checks.{Check, ◌when◌, after}
 use Rattle.checks.specs.Settle.{settle}
 use Rattle.image.specs.Image.{good, spot, file, was_found}
 use Rattle.passwords.specs.PasswordFile.{well_formed}
-use Rattle.setup.specs.declared.Span.{Span}
+use Rattle.octets.specs.declared.span.Span.{Span}
 use Rattle.setup.specs.declared.Setup.{Setup}
 use Rattle.setup.specs.declared.Outcome.{Outcome}
 use Rattle.setup.specs.Setup.{is_active}

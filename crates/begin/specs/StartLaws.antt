@@ -4,7 +4,7 @@ use Rattle.std.proofs.Common.{sym, ◌∙◌, arith, ltb-false}
 use Rattle.checks.specs.Checks.{◌when◌, after}
 use Rattle.checks.specs.Laws.{not-due, after-refused}
 use Rattle.checks.specs.Settle.{settle_done, settle-refused}
-use Rattle.setup.specs.declared.Span.{Span}
+use Rattle.octets.specs.declared.span.Span.{Span}
 use Rattle.setup.specs.declared.Setup.{Setup}
 use Rattle.setup.specs.declared.Outcome.{Outcome}
 use Rattle.setup.specs.Reading.{read, refusal, permission_table}

@@ -8,9 +8,9 @@ use Rattle.rows.specs.LikeLaws.{by_test}
 use Rattle.image.specs.SpotLaws.{spots-apart, on_file-at}
 use Rattle.passwords.specs.PasswordFile.{mask_digests}
 use Rattle.passwords.specs.MaskLaws.{mask-length}
-use Rattle.setup.specs.declared.Span.{Span}
+use Rattle.octets.specs.declared.span.Span.{Span}
 use Rattle.setup.specs.declared.Setup.{Setup}
-use Rattle.setup.specs.Setup.{no_span}
+use Rattle.octets.specs.Spans.{no_span}
 use Rattle.state.specs.declared.Kept.{Kept}
 use Rattle.state.specs.declared.LoginRecord.{LoginRecord}
 use Rattle.state.specs.declared.Plan.{Plan}

@@ -4,7 +4,7 @@ use Rattle.octets.specs.OnPartLaws.{Apart}
 use Rattle.image.specs.declared.Found.TheVariants.{At}
 use Rattle.image.specs.Image.{spot, good as goodImage}
 use Rattle.passwords.specs.PasswordFile.{well_formed, count}
-use Rattle.setup.specs.declared.Span.{Span}
+use Rattle.octets.specs.declared.span.Span.{Span}
 use Rattle.setup.specs.Rules.{reserved}
 use Rattle.state.specs.declared.Plan.{Plan}
 use Rattle.state.specs.Parts.{segment_at, seat_at, is_active}

@@ -1,7 +1,7 @@
 -- Document 01, "Calls", BAD_STATE: "a place or count, kept in the state .., that leads outside its area; docs/ gives the test". This is
 -- the test, as docs/BAD_STATE.md has it. Unused seats and segments are empty, and pass it.
 use Rattle.std.specs.Prelude.{Bool, true, ◌&&◌, List, [], ◌∷◌, ℕ, ◌+◌, ◌*◌, leb, ltb}
-use Rattle.setup.specs.declared.Span.{Span}
+use Rattle.octets.specs.declared.span.Span.{Span}
 use Rattle.state.specs.declared.Kept.{Kept}
 use Rattle.state.specs.declared.Segment.{Segment}
 use Rattle.state.specs.declared.Seat.{Seat}

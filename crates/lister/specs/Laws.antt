@@ -8,7 +8,8 @@ use Rattle.lines.specs.Lines.{decimal, line, dseg, mseg, refusal_line}
 use Rattle.lines.specs.Wrote.{Wrote, most}
 use Rattle.octets.specs.Lists.{part}
 use Rattle.octets.specs.WriteLaws.{write_at-zero}
-use Rattle.setup.specs.Setup.{is_active, bytes_of}
+use Rattle.octets.specs.Spans.{bytes_of}
+use Rattle.setup.specs.Setup.{is_active}
 use Rattle.setup.specs.Values.{blank}
 use Rattle.setup.specs.Rules.{limits}
 use Rattle.setup.specs.Reading.{read}

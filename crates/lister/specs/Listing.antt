@@ -3,7 +3,8 @@ use Rattle.std.specs.Prelude.{Bool, true, false, cond, ◌&&◌, ◌||◌, List,
 use Rattle.octets.specs.Search.{index_of}
 use Rattle.lines.specs.Lines.{decimal, header_line, line, dseg, mseg, refusal_line}
 use Rattle.octets.specs.Lists.{over}
-use Rattle.setup.specs.Setup.{is_active, bytes_of}
+use Rattle.octets.specs.Spans.{bytes_of}
+use Rattle.setup.specs.Setup.{is_active}
 use Rattle.setup.specs.Values.{blank}
 use Rattle.setup.specs.Rules.{limits}
 use Rattle.setup.specs.Reading.{read}

@@ -2,7 +2,7 @@
 ghost use Rattle.std.specs.Prelude.{◌<◌, min, get_or};
 ghost use Rattle.lines.specs.Lines.{decimal, line, dseg, mseg};
 ghost use Rattle.lines.specs.Wrote.{Wrote};
-ghost use Rattle.setup.specs.Setup.{bytes_of};
+ghost use Rattle.octets.specs.Spans.{bytes_of};
 ghost use Rattle.lister.specs.Listing.{dseg_lines, mseg_lines, lines_of, partition_lines, setup_lines};
 
 use lines::numbers::put;

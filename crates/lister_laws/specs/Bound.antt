@@ -10,7 +10,8 @@ use Rattle.lines.specs.Lines.{digits, decimal, header_line, permission, dseg, ms
 use Rattle.setup.specs.declared.Segment.{Segment}
 use Rattle.setup.specs.declared.Setup.{Setup}
 use Rattle.setup.specs.declared.Outcome.{Outcome}
-use Rattle.setup.specs.Setup.{is_active, bytes_of}
+use Rattle.octets.specs.Spans.{bytes_of}
+use Rattle.setup.specs.Setup.{is_active}
 use Rattle.setup.specs.Values.{blank}
 use Rattle.setup.specs.Rules.{limits}
 use Rattle.setup.specs.Reading.{read}

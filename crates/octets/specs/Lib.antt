@@ -9,3 +9,4 @@ pub mod NthLaws
 pub mod NumberLaws
 pub mod Same
 pub mod Search
+pub mod Spans

@@ -7,3 +7,4 @@
 pub mod numbers;
 pub mod parts;
 pub mod search;
+pub mod span;

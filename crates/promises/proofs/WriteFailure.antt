@@ -7,7 +7,7 @@ use Rattle.octets.specs.OnPartLaws.{on_part-same, take-on_part-before, drop-on_p
 use Rattle.octets.specs.WriteLaws.{length_over, over-same, write_at-zero, on_part-write_at, drop-write_at-behind}
 use Rattle.checks.specs.Settle.{by_settle}
 use Rattle.checks.specs.Told.{Told}
-use Rattle.setup.specs.declared.Span.{Span}
+use Rattle.octets.specs.declared.span.Span.{Span}
 use Rattle.state.specs.Parts.{seat_at}
 use Rattle.memory.specs.Memory.{bytes_of, flush_checks, flush}
 use Rattle.accounts.specs.Strings.{string_of}

@@ -1,7 +1,7 @@
 -- Demand 1: "only a store write that breaks off may leave its stated first bytes, and memory's password table then follows the store". Which moves can be
 -- answered 203 (WRITE_FAILURE), and what each of them may then have changed. Writes to a device change nothing then: Refusals has that.
 use Rattle.std.specs.Prelude.{Bool, true, false, List, ◌≡◌, ℕ, ◌+◌, min, take, drop}
-use Rattle.setup.specs.declared.Span.{Span}
+use Rattle.octets.specs.declared.span.Span.{Span}
 use Rattle.state.specs.declared.Segment.{Segment}
 use Rattle.memory.specs.Rights.{reach}
 use Rattle.steps.specs.World.{World, Move}

@@ -2,7 +2,7 @@
 -- in that partition's login and set-password calls".
 use Rattle.std.specs.Prelude.{cond, List, [], map, ◌≡◌, ℕ, eqb}
 use Rattle.octets.specs.Lists.{on_part}
-use Rattle.setup.specs.declared.Span.{Span}
+use Rattle.octets.specs.declared.span.Span.{Span}
 use Rattle.state.specs.Parts.{seat_at}
 use Rattle.passwords.specs.PasswordFile.{mask_digests}
 use Rattle.steps.specs.World.{World, Move}

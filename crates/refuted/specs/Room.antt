@@ -3,7 +3,7 @@
 use Rattle.std.specs.Prelude.{true, false, List, [], ◌∷◌, ◌++◌, ℕ, replicate}
 use Rattle.devices.specs.Queue.{no_keys}
 use Rattle.devices.specs.Screen.{blanks}
-use Rattle.setup.specs.Setup.{span, no_span}
+use Rattle.octets.specs.Spans.{span, no_span}
 use Rattle.sha256.specs.Words.{bytes_of}
 use Rattle.sha256.specs.Padding.{zeros, length_field, padded, blocks}
 use Rattle.sha256.specs.Padding as padding

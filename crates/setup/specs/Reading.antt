@@ -10,7 +10,8 @@ use Rattle.setup.specs.declared.Segment.{Segment}
 use Rattle.setup.specs.declared.Setup.{Setup}
 use Rattle.setup.specs.declared.Judged.{Judged}
 use Rattle.setup.specs.declared.Outcome.{Outcome}
-use Rattle.setup.specs.Setup.{no_span, span, begun, permission_row, with_code, with_dseg, with_mseg}
+use Rattle.octets.specs.Spans.{no_span, span}
+use Rattle.setup.specs.Setup.{begun, permission_row, with_code, with_dseg, with_mseg}
 use Rattle.setup.specs.Rules.{code_rank, dseg_rank, mseg_rank, code_checks, dseg_checks, mseg_checks, code_missing}
 
 abbrev pub no_setup : Setup

@@ -1,16 +1,10 @@
 -- Document 01, "Set-up text": the set-up as a value.
 use Rattle.std.specs.Prelude.{Bool, false, cond, ◌&&◌, ◌||◌, not, List, [], ◌∷◌, ◌++◌, ℕ, ◌+◌, ◌-◌, ◌/◌, ◌%◌, ◌^◌, min, eqb, ltb, take, get_or, replicate, set}
-use Rattle.octets.specs.Lists.{part}
+use Rattle.octets.specs.Spans.{no_span, bytes_of}
 use Rattle.octets.specs.Same.{same_bytes}
-use Rattle.setup.specs.declared.Span.{Span}
+use Rattle.octets.specs.declared.span.Span.{Span}
 use Rattle.setup.specs.declared.Segment.{Segment}
 use Rattle.setup.specs.declared.Setup.{Setup}
-
-abbrev pub no_span : Span
-no_span = record { place = 0; length = 0 }
-
-abbrev pub span : ℕ → ℕ → Span
-span place n = record { place = place; length = n }
 
 abbrev pub no_segment : Segment
 no_segment = record { path = no_span; size = 0; host = 0; permissions = replicate 8 0 }
@@ -31,10 +25,6 @@ begun count active =
 -- partition p is an active one
 unfoldable pub is_active : Setup → ℕ → Bool
 is_active s p = ltb p s.partitions && get_or s.active p false
-
--- the bytes of a path
-unfoldable pub bytes_of : List ℕ → Span → List ℕ
-bytes_of text p = part p.place p.length text
 
 -- partition p has a CODE statement
 unfoldable pub has_code : Setup → ℕ → Bool

@@ -9,10 +9,11 @@ use Rattle.std.proofs.lemmas.List.{replicate-append-replicate}
 use Rattle.octets.specs.Same.{same_bytes}
 use Rattle.image.specs.Image.{spot, was_found}
 use Rattle.image.specs.declared.Found.{Found}
-use Rattle.setup.specs.declared.Span.{Span}
+use Rattle.octets.specs.declared.span.Span.{Span}
 use Rattle.setup.specs.declared.Segment.{Segment}
 use Rattle.setup.specs.declared.Setup.{Setup}
-use Rattle.setup.specs.Setup.{no_span, no_segment, is_active, has_code, bytes_of, among, paths_of, permission_of, with_code}
+use Rattle.octets.specs.Spans.{no_span, bytes_of}
+use Rattle.setup.specs.Setup.{no_segment, is_active, has_code, among, paths_of, permission_of, with_code}
 use Rattle.setup.specs.Rules.{absent}
 use Rattle.setup.specs.Reading.{permission_table}
 

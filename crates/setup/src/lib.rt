@@ -4,6 +4,7 @@
 #![tactic(auto)]
 
 use octets::parts;
+pub use octets::span::Span;
 use text::gaps;
 
 mod judging;
@@ -13,13 +14,6 @@ ghost use Rattle.std.specs.Prelude.{◌≡◌, false, ◌++◌, ◌<◌, ◌≤�
 ghost use Rattle.setup.specs.Setup.{begun, is_active, has_code, with_code, with_dseg, with_mseg};
 ghost use Rattle.setup.specs.Rules.{limits};
 ghost use Rattle.setup.specs.Reading.{refusal, ended, read, permission_table};
-
-// A path in the text. No path has fewer than two bytes: length 0 stands for none.
-#[derive(Clone, Copy)]
-pub struct Span {
-    pub place: usize,
-    pub length: usize,
-}
 
 // A dseg (with a path, and size 0) or an mseg (with a size, and no path): its host, and the permission of each partition: 0 NA, 1 RO,
 // 2 RW, and 0 behind the last partition.

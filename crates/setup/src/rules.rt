@@ -2,7 +2,8 @@
 ghost use Rattle.std.specs.Prelude.{Bool, not, ◌&&◌, ◌||◌, ◌≡◌, ◌≤◌, eqb, leb};
 ghost use Rattle.checks.specs.Checks.{after};
 ghost use Rattle.octets.specs.Same.{same_bytes};
-ghost use Rattle.setup.specs.Setup.{bytes_of, among, paths_of, path_taken, permission_of, permission_row, is_active};
+ghost use Rattle.octets.specs.Spans.{bytes_of};
+ghost use Rattle.setup.specs.Setup.{among, paths_of, path_taken, permission_of, permission_row, is_active};
 ghost use Rattle.setup.specs.Rules.{reserved, absent, some_writes, code_checks, dseg_checks, mseg_checks, code_missing, some_active, dseg_broken, mseg_broken, bad_partitions};
 
 use super::{Segment, Setup, Span};

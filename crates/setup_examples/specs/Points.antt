@@ -7,7 +7,8 @@ use Rattle.text.specs.Gaps.{gap_from, token_place, line_feeds, line_of}
 use Rattle.text.specs.Tokens.{run, word_at, decimal_from, number_from, number_at, sized, with_unit, size_at, path_of, quoted_path, bare_path, path_at}
 use Rattle.statements.specs.Statements.{head_at, permission_at, packed, permissions_from, permissions_at, tail_at, code_at, dseg_at, mseg_at, statement_at, kind_at, statement_of}
 use Rattle.checks.specs.Checks.{refused, after}
-use Rattle.setup.specs.Setup.{begun, is_active, bytes_of, has_code, among, paths_of, path_taken, permission_of, permission_row, with_code, with_dseg, with_mseg}
+use Rattle.octets.specs.Spans.{bytes_of}
+use Rattle.setup.specs.Setup.{begun, is_active, has_code, among, paths_of, path_taken, permission_of, permission_row, with_code, with_dseg, with_mseg}
 use Rattle.setup.specs.Rules.{reserved, absent, some_writes, code_checks, dseg_checks, mseg_checks, code_missing, some_active, limits}
 use Rattle.setup.specs.Reading.{settled, judged, judged_at, ended, read_from, read}
 

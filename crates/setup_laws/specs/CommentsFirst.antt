@@ -10,12 +10,13 @@ use Rattle.text.specs.CommentLaws.{length-blanked, line-blanked, place-blanked, 
 use Rattle.statements.specs.Statements.{statement_at}
 use Rattle.statements.specs.declared.Statement.{Statement}
 use Rattle.statements.specs.declared.Statement.TheVariants.{Code, Dseg, Mseg, Malformed}
-use Rattle.setup.specs.declared.Span.{Span}
+use Rattle.octets.specs.declared.span.Span.{Span}
 use Rattle.setup.specs.declared.Segment.{Segment}
 use Rattle.setup.specs.declared.Setup.{Setup}
 use Rattle.setup.specs.declared.Judged.{Judged}
 use Rattle.setup.specs.declared.Outcome.{Outcome}
-use Rattle.setup.specs.Setup.{no_span, no_segment, begun, bytes_of, among, paths_of, path_taken, with_code, with_dseg, with_mseg, span}
+use Rattle.octets.specs.Spans.{no_span, bytes_of, span}
+use Rattle.setup.specs.Setup.{no_segment, begun, among, paths_of, path_taken, with_code, with_dseg, with_mseg}
 use Rattle.setup.specs.Rules.{dseg_checks}
 use Rattle.setup.specs.Reading.{settled, judged, judged_at, ended, refusal, read_from, read, refused_at}
 use Rattle.setup_laws.specs.SameStatements.{SameBytes, EndsStatement, statement_blanked}

@@ -13,11 +13,12 @@ use Rattle.statements.specs.declared.Kind.{Kind}
 use Rattle.statements.specs.declared.Kind.TheVariants as kind
 use Rattle.statements.specs.declared.Statement.{Statement}
 use Rattle.statements.specs.declared.Statement.TheVariants.{Code, Dseg, Mseg, Malformed}
-use Rattle.setup.specs.declared.Span.{Span}
+use Rattle.octets.specs.declared.span.Span.{Span}
 use Rattle.setup.specs.declared.Setup.{Setup}
 use Rattle.setup.specs.declared.Judged.{Judged}
 use Rattle.setup.specs.declared.Outcome.{Outcome}
-use Rattle.setup.specs.Setup.{no_span, span, begun, is_active, has_code, with_code, with_dseg, with_mseg}
+use Rattle.octets.specs.Spans.{no_span, span}
+use Rattle.setup.specs.Setup.{begun, is_active, has_code, with_code, with_dseg, with_mseg}
 use Rattle.setup.specs.Rules.{code_checks, dseg_checks, mseg_checks}
 use Rattle.setup.specs.Reading.{settled, judged, judged_at, ended, refusal, refused_at, read_from, read}
 

@@ -1,6 +1,6 @@
 -- A small terminal to ask: one partition, its screen, and a password table of two accounts.
 use Rattle.std.specs.Prelude.{true, false, List, [], ◌∷◌, ◌++◌, ℕ, replicate}
-use Rattle.setup.specs.Setup.{span}
+use Rattle.octets.specs.Spans.{span}
 use Rattle.state.specs.declared.Login.{Login}
 use Rattle.state.specs.declared.Login.TheVariants.{Nobody, User}
 use Rattle.state.specs.declared.Plan.{Plan}

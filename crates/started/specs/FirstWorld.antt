@@ -9,9 +9,9 @@ use Rattle.octets.specs.PartLaws.{length-part_in}
 use Rattle.octets.specs.WriteLaws.{length_over}
 use Rattle.image.specs.Image.{spot, file}
 use Rattle.image.specs.SpotLaws.{spot-inside}
-use Rattle.setup.specs.declared.Span.{Span}
+use Rattle.octets.specs.declared.span.Span.{Span}
 use Rattle.setup.specs.declared.Setup.{Setup}
-use Rattle.setup.specs.Setup.{no_span, bytes_of}
+use Rattle.octets.specs.Spans.{no_span, bytes_of}
 use Rattle.setup.specs.Setup.{is_active as activeOf, no_segment as undeclared}
 use Rattle.setup.specs.Reading.{permission_table}
 use Rattle.state.specs.declared.Kept.{Kept}

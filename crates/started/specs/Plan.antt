@@ -9,9 +9,9 @@ use Rattle.devices.specs.Choice.{by_cond}
 use Rattle.image.specs.declared.Found.{Found}
 use Rattle.image.specs.declared.Found.TheVariants.{At, Nothing}
 use Rattle.image.specs.Image.{spot, was_found}
-use Rattle.setup.specs.declared.Span.{Span}
+use Rattle.octets.specs.declared.span.Span.{Span}
 use Rattle.setup.specs.declared.Setup.{Setup}
-use Rattle.setup.specs.Setup.{no_span, span, bytes_of}
+use Rattle.octets.specs.Spans.{no_span, span, bytes_of}
 use Rattle.setup.specs.Setup.{is_active as activeOf, no_segment as undeclared}
 use Rattle.state.specs.declared.Kept.{Kept}
 use Rattle.state.specs.declared.Plan.{Plan}

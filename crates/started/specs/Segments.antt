@@ -3,9 +3,9 @@ use Rattle.std.specs.Prelude.{Bool, List, ◌⊎◌, ◌≡◌, refl, ℕ, ◌-�
 use Rattle.std.proofs.Common.{inl, inr, arith}
 use Rattle.std.proofs.Math.Decide.{dec_le}
 use Rattle.devices.specs.Choice.{by_cond}
-use Rattle.setup.specs.declared.Span.{Span}
+use Rattle.octets.specs.declared.span.Span.{Span}
 use Rattle.setup.specs.declared.Setup.{Setup}
-use Rattle.setup.specs.Setup.{no_span, span}
+use Rattle.octets.specs.Spans.{no_span, span}
 use Rattle.state.specs.declared.Kept.{Kept}
 use Rattle.state.specs.declared.Plan.{Plan}
 use Rattle.state.specs.declared.Segment.{Segment}

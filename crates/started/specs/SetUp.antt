@@ -21,7 +21,8 @@ use Rattle.setup.specs.declared.Segment.{Segment}
 use Rattle.setup.specs.declared.Setup.{Setup}
 use Rattle.setup.specs.declared.Judged.{Judged}
 use Rattle.setup.specs.declared.Outcome.{Outcome}
-use Rattle.setup.specs.Setup.{no_segment, span, begun, bytes_of, with_code, with_dseg, with_mseg}
+use Rattle.octets.specs.Spans.{span, bytes_of}
+use Rattle.setup.specs.Setup.{no_segment, begun, with_code, with_dseg, with_mseg}
 use Rattle.setup.specs.Rules.{reserved, absent, dseg_checks, code_missing}
 use Rattle.setup.specs.Reading.{settled, judged, judged_at, ended, refusal, refused_at, read_from, read}
 use Rattle.setup.specs.Turns.{dseg-room, mseg-room}

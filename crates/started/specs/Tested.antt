@@ -12,9 +12,10 @@ use Rattle.image.specs.declared.Found.TheVariants.{At}
 use Rattle.image.specs.Image.{spot, file, was_found}
 use Rattle.image.specs.SpotLaws.{spot-inside}
 use Rattle.passwords.specs.PasswordFile.{well_formed}
-use Rattle.setup.specs.declared.Span.{Span}
+use Rattle.octets.specs.declared.span.Span.{Span}
 use Rattle.setup.specs.declared.Setup.{Setup}
-use Rattle.setup.specs.Setup.{no_span, span, bytes_of, begun}
+use Rattle.octets.specs.Spans.{no_span, span, bytes_of}
+use Rattle.setup.specs.Setup.{begun}
 use Rattle.setup.specs.Setup.{is_active as activeOf, no_segment as undeclared}
 use Rattle.setup.specs.Rules.{some_active}
 use Rattle.state.specs.declared.Kept.{Kept}

@@ -1,7 +1,7 @@
 -- What is there before a start, and where nothing is: zeros, false and nobody, so that what means the same is the same.
 use Rattle.std.specs.Prelude.{false, replicate}
 use Rattle.devices.specs.Queue.{no_keys}
-use Rattle.setup.specs.Setup.{no_span}
+use Rattle.octets.specs.Spans.{no_span}
 use Rattle.state.specs.declared.Kept.{Kept}
 use Rattle.state.specs.declared.Segment.{Segment}
 use Rattle.state.specs.declared.Seat.{Seat}

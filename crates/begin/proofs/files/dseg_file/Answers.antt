@@ -1,6 +1,7 @@
 -- `begin::files::dseg_file` meets its contract: the file is looked for by the path that the text has for the dseg. Assumes nothing.
 use Rattle.std.proofs.Common.{lt-ltb, le-ltb, ◌≡◌, length, arith, rules}
-use Rattle.setup.specs.Setup.{bytes_of, no_segment}
+use Rattle.octets.specs.Spans.{bytes_of}
+use Rattle.setup.specs.Setup.{no_segment}
 use Rattle.setup.specs.Values.{blank, get_or_any}
 use Rattle.begin.specs.Files.{dseg_file}
 use Rattle.begin.proofs.files.dseg_file.Goals as goal

@@ -1,5 +1,5 @@
 use Rattle.std.proofs.Common.{le-ltb, ◌≡◌, refl, sym, ◌∙◌, ℕ, arith, get_or}
-use Rattle.setup.specs.Setup.{no_span}
+use Rattle.octets.specs.Spans.{no_span}
 use Rattle.begin.specs.Each.{total}
 use Rattle.begin.specs.JudgeLaws.{short-step, place-step}
 use Rattle.begin.specs.Planned.{table_start}

@@ -1,5 +1,5 @@
 use Rattle.std.proofs.Common.{refl, ◌∙◌, ℕ, arith, get_or, length-set}
-use Rattle.setup.specs.Setup.{no_span}
+use Rattle.octets.specs.Spans.{no_span}
 use Rattle.begin.specs.Each.{firsts, total}
 use Rattle.begin.specs.EachLaws.{firsts-step, firsts_end, sum_step}
 use Rattle.begin.specs.Planned.{table_start, seat_of}

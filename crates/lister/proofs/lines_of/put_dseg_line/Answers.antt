@@ -1,5 +1,5 @@
 -- `lister::lines_of::put_dseg_line` meets its contract: the path is a part of the text. Assumes nothing.
-use Rattle.setup.specs.Setup.{bytes_of}
+use Rattle.octets.specs.Spans.{bytes_of}
 use Rattle.lister.proofs.lines_of.put_dseg_line.Goals as goal
 
 pub returns : goal.returns

@@ -1,6 +1,6 @@
 use Rattle.std.proofs.Common.{rules, length, arith, ◌≡◌, refl, sym, ◌∙◌}
 use Rattle.setup.specs.Values.{code_step, code_end}
-use Rattle.setup.specs.Setup.{no_span}
+use Rattle.octets.specs.Spans.{no_span}
 use Rattle.setup.proofs.rules.among_codes.Goals as goal
 
 pub loop-i-init : goal.loop-i-init

@@ -1,4 +1,4 @@
-use Rattle.setup.specs.Setup.{bytes_of}
+use Rattle.octets.specs.Spans.{bytes_of}
 use Rattle.setup.proofs.rules.same_path.Goals as goal
 
 pub returns : goal.returns

@@ -5,7 +5,7 @@ use borrow.Rule.Slice.PartMut.{mid_of, put_mid}
 use Rattle.octets.specs.Lists.{part, over, on_part}
 use Rattle.octets.specs.LentLaws.{lent-part, lent_back}
 use Rattle.octets.specs.WriteLaws.{over-same}
-use Rattle.setup.specs.declared.Span.{Span}
+use Rattle.octets.specs.declared.span.Span.{Span}
 use Rattle.state.specs.declared.LoginRecord.{LoginRecord}
 use Rattle.state.specs.Parts.{seat_at}
 use Rattle.accounts.specs.SetPassword.{Changed, changed}
