@@ -25,9 +25,9 @@ module _ (q : ℕ) (store : List ℕ) where
 
   judged_masked : (text : List ℕ) (p rank : ℕ) (s : Setup) (st : Statement) → judged true (mask_image q store) text p rank s st ≡ judged true store text p rank s st
   unfolding judged code_checks dseg_checks
-  judged_masked text p rank s (Code partition start n next) = rw (absent_masked _)
-  judged_masked text p rank s (Dseg index start n host count bits next) = rw (absent_masked _)
-  judged_masked text p rank s (Mseg index size host count bits next) = refl
+  judged_masked text p rank s (Code partition path next) = rw (absent_masked _)
+  judged_masked text p rank s (Dseg index path grants next) = rw (absent_masked _)
+  judged_masked text p rank s (Mseg index size grants next) = refl
   judged_masked text p rank s Malformed = refl
 
   at_masked : (text : List ℕ) (at rank : ℕ) (s : Setup) → judged_at true (mask_image q store) text at rank s ≡ judged_at true store text at rank s

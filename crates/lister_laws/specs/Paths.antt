@@ -1,23 +1,18 @@
 -- Every dseg of a set-up that was read has a path of at most 63 bytes.
-use Rattle.std.specs.Prelude.{Bool, true, false, cond, List, [], ◌∷◌, ◌≡◌, refl, eqb, leb, length, get_or, set, replicate, ℕ, zero, suc, ◌≤◌}
+use Rattle.std.specs.Prelude.{Bool, true, false, cond, List, [], ◌∷◌, eqb, leb, length, get_or, set, replicate, ℕ, zero, suc, ◌≤◌}
 use Rattle.std.proofs.Common.{arith}
 use Rattle.checks.specs.Checks.{after}
-use Rattle.octets.specs.Lists.{part}
 use Rattle.text.specs.Gaps.{token_place}
 use Rattle.text.specs.Steps.{split}
 use Rattle.text.specs.Tokens.{word_at, size_at, path_at}
 use Rattle.text.specs.Sound.{path-read}
-use Rattle.text.specs.declared.Mark.{Mark}
-use Rattle.text.specs.declared.Mark.TheVariants.{Behind, Absent}
-use Rattle.text.specs.declared.Number.{Number}
-use Rattle.text.specs.declared.Number.TheVariants as number
-use Rattle.text.specs.declared.Path.{Path}
-use Rattle.text.specs.declared.Path.TheVariants as path
-use Rattle.statements.specs.declared.Tail.{Tail}
-use Rattle.statements.specs.declared.Tail.TheVariants as tail
+use Rattle.octets.specs.Spans.{bytes_of}
+use Rattle.octets.specs.declared.span.Span.{Span}
+use Rattle.statements.specs.declared.Grants.{Grants}
 use Rattle.statements.specs.declared.Statement.{Statement}
 use Rattle.statements.specs.declared.Statement.TheVariants.{Code, Dseg, Mseg, Malformed}
-use Rattle.statements.specs.Statements.{on_mark, on_number, on_path, on_tail, byte, head_at, tail_at, code_at, dseg_at, mseg_at, statement_at}
+use Rattle.statements.specs.Statements.{byte, head_at, tail_at, code_at, dseg_at, mseg_at, statement_at}
+use Rattle.statements.specs.Kinds.{by_token}
 use Rattle.setup.specs.declared.Segment.{Segment}
 use Rattle.setup.specs.declared.Setup.{Setup}
 use Rattle.setup.specs.declared.Outcome.{Outcome}
@@ -58,96 +53,49 @@ module _ {A : Type 0} (P : A → Type 0) where
   by_cond true a b p q = p
   by_cond false a b p q = q
 
-  by_mark : (bad : A) (m : Mark) (k : ℕ → A) → P bad → ((next : ℕ) → P (k next)) → P (on_mark bad m k)
-  by_mark bad (Behind next) k p q = q next
-  by_mark bad Absent k p q = p
-
-  by_number : (bad : A) (m : Number) (k : ℕ → ℕ → A) → P bad → ((value next : ℕ) → P (k value next)) → P (on_number bad m k)
-  by_number bad (number.Is value next) k p q = q value next
-  by_number bad number.Bad k p q = p
-
-  by_path : (bad : A) (m : Path) (k : ℕ → ℕ → ℕ → A) → P bad
-      → ((start n next : ℕ) → m ≡ path.Is start n next → P (k start n next)) → P (on_path bad m k)
-  by_path bad (path.Is start n next) k p q = q start n next refl
-  by_path bad path.Bad k p q = p
-
-  by_tail : (bad : A) (m : Tail) (k : ℕ → ℕ → ℕ → ℕ → A) → P bad → ((host count bits next : ℕ) → P (k host count bits next))
-      → P (on_tail bad m k)
-  by_tail bad (tail.Is host count bits next) k p q = q host count bits next
-  by_tail bad tail.Bad k p q = p
-
 -- ---- statements
 
 data Fits : Statement → Type 0 where
-  code : {partition start n next : ℕ} → Fits (Code partition start n next)
-  dseg : {index start n host count bits next : ℕ} → n ≤ 63 → Fits (Dseg index start n host count bits next)
-  mseg : {index size host count bits next : ℕ} → Fits (Mseg index size host count bits next)
+  code : {partition : ℕ} {path : Span} {next : ℕ} → Fits (Code partition path next)
+  dseg : {index : ℕ} {path : Span} {grants : Grants} {next : ℕ} → path.length ≤ 63 → Fits (Dseg index path grants next)
+  mseg : {index size : ℕ} {grants : Grants} {next : ℕ} → Fits (Mseg index size grants next)
   malformed : Fits Malformed
 
 module _ (text : List ℕ) where
-  -- what follows a token, as the definitions have it
-  abbrev code3 : ℕ → ℕ → ℕ → ℕ → Statement
-  code3 partition start n b = on_mark Malformed (byte 59 text b) λ c. Code partition start n c
-
-  abbrev code2 : ℕ → ℕ → Statement
-  code2 partition a = on_path Malformed (path_at text a) λ start n b. code3 partition start n b
-
   code_fits : (at : ℕ) → Fits (code_at text at)
   unfolding code_at
   code_fits at =
-      by_number Fits Malformed (head_at text at) code2 malformed
-      λ partition a. by_path Fits Malformed (path_at text a) (code3 partition) malformed
-      λ start n b e. by_mark Fits Malformed (byte 59 text b) (Code partition start n) malformed
-      λ c. code
-
-  abbrev dseg4 : ℕ → ℕ → ℕ → ℕ → Statement
-  dseg4 index start n c = on_tail Malformed (tail_at text c) λ host count bits d. Dseg index start n host count bits d
-
-  abbrev dseg3 : ℕ → ℕ → Statement
-  dseg3 index b = on_path Malformed (path_at text b) λ start n c. dseg4 index start n c
-
-  abbrev dseg2 : ℕ → ℕ → Statement
-  dseg2 index a = on_mark Malformed (byte 123 text a) λ b. dseg3 index b
+      by_token Fits malformed (head_at text at) _ λ (partition, a) e.
+      by_token Fits malformed (path_at text a) _ λ (path, b) f.
+      by_token Fits malformed (byte 59 text b) _ λ c g.
+      code
 
   dseg-fits : (at : ℕ) → Fits (dseg_at text at)
   unfolding dseg_at
   dseg-fits at =
-      by_number Fits Malformed (head_at text at) dseg2 malformed
-      λ index a. by_mark Fits Malformed (byte 123 text a) (dseg3 index) malformed
-      λ b. by_path Fits Malformed (path_at text b) (dseg4 index) malformed
-      λ start n c e. by_tail Fits Malformed (tail_at text c) (Dseg index start n) malformed
-      λ host count bits d. dseg (path-read text b start n c e).most
-
-  abbrev mseg4 : ℕ → ℕ → ℕ → Statement
-  mseg4 index size c = on_tail Malformed (tail_at text c) λ host count bits d. Mseg index size host count bits d
-
-  abbrev mseg3 : ℕ → ℕ → Statement
-  mseg3 index b = on_number Malformed (size_at text b) λ size c. mseg4 index size c
-
-  abbrev mseg2 : ℕ → ℕ → Statement
-  mseg2 index a = on_mark Malformed (byte 123 text a) λ b. mseg3 index b
+      by_token Fits malformed (head_at text at) _ λ (index, a) e.
+      by_token Fits malformed (byte 123 text a) _ λ b f.
+      by_token Fits malformed (path_at text b) _ λ (path, c) g.
+      by_token Fits malformed (tail_at text c) _ λ (grants, d) h.
+      dseg (path-read text b path.place path.length c g).most
 
   mseg-fits : (at : ℕ) → Fits (mseg_at text at)
   unfolding mseg_at
   mseg-fits at =
-      by_number Fits Malformed (head_at text at) mseg2 malformed
-      λ index a. by_mark Fits Malformed (byte 123 text a) (mseg3 index) malformed
-      λ b. by_number Fits Malformed (size_at text b) (mseg4 index) malformed
-      λ size c. by_tail Fits Malformed (tail_at text c) (Mseg index size) malformed
-      λ host count bits d. mseg
-
-  abbrev last : ℕ → Statement
-  last at = on_mark Malformed (word_at (77 ∷ 83 ∷ 69 ∷ 71 ∷ []) text at) λ a. mseg_at text a
-
-  abbrev second : ℕ → Statement
-  second at = on_mark (last at) (word_at (68 ∷ 83 ∷ 69 ∷ 71 ∷ []) text at) λ a. dseg_at text a
+      by_token Fits malformed (head_at text at) _ λ (index, a) e.
+      by_token Fits malformed (byte 123 text a) _ λ b f.
+      by_token Fits malformed (size_at text b) _ λ (size, c) g.
+      by_token Fits malformed (tail_at text c) _ λ (grants, d) h.
+      mseg
 
   statement_fits : (at : ℕ) → Fits (statement_at text at)
   unfolding statement_at
   statement_fits at =
-      by_mark Fits (second at) (word_at (67 ∷ 79 ∷ 68 ∷ 69 ∷ []) text at) (code_at text)
-      (by_mark Fits (last at) (word_at (68 ∷ 83 ∷ 69 ∷ 71 ∷ []) text at) (dseg_at text)
-      (by_mark Fits Malformed (word_at (77 ∷ 83 ∷ 69 ∷ 71 ∷ []) text at) (mseg_at text) malformed mseg-fits) dseg-fits) code_fits
+      by_token Fits
+      (by_token Fits
+      (by_token Fits malformed (word_at (77 ∷ 83 ∷ 69 ∷ 71 ∷ []) text at) _ λ a e. mseg-fits a)
+      (word_at (68 ∷ 83 ∷ 69 ∷ 71 ∷ []) text at) _ λ a e. dseg-fits a)
+      (word_at (67 ∷ 79 ∷ 68 ∷ 69 ∷ []) text at) _ λ a e. code_fits a
 
 -- ---- the reading
 
@@ -157,13 +105,13 @@ ShortOf o = Short o.setup.dsegs
 module _ (look : Bool) (image text : List ℕ) where
   judged-short : (p rank : ℕ) (s : Setup) (st : Statement) → Fits st → Short s.dsegs → Short (judged look image text p rank s st).setup.dsegs
   unfolding judged settled begun with_code with_dseg with_mseg
-  judged-short p rank s (Code partition start n next) f h =
-      split (eqb (after 0 (code_checks look image rank s partition (part start n text))) 0) (λ e. rw e h) (λ e. rw e (short-blank 16))
-  judged-short p rank s (Dseg index start n host count bits next) (dseg f) h =
-      split (eqb (after 0 (dseg_checks look image text rank s index (part start n text) host count bits)) 0)
-      (λ e. rw e (short-set s.dsegcount (reading.dseg start n host count bits) f h)) (λ e. rw e (short-blank 16))
-  judged-short p rank s (Mseg index size host count bits next) f h =
-      split (eqb (after 0 (mseg_checks s index size host count bits)) 0) (λ e. rw e h) (λ e. rw e (short-blank 16))
+  judged-short p rank s (Code partition path next) f h =
+      split (eqb (after 0 (code_checks look image rank s partition (bytes_of text path))) 0) (λ e. rw e h) (λ e. rw e (short-blank 16))
+  judged-short p rank s (Dseg index path grants next) (dseg f) h =
+      split (eqb (after 0 (dseg_checks look image text rank s index (bytes_of text path) grants.host grants.permissions.count grants.permissions.bits)) 0)
+      (λ e. rw e (short-set s.dsegcount (reading.dseg path grants) f h)) (λ e. rw e (short-blank 16))
+  judged-short p rank s (Mseg index size grants next) f h =
+      split (eqb (after 0 (mseg_checks s index size grants.host grants.permissions.count grants.permissions.bits)) 0) (λ e. rw e h) (λ e. rw e (short-blank 16))
   judged-short p rank s Malformed f h = short-blank 16
 
   judged_at-short : (at rank : ℕ) (s : Setup) → Short s.dsegs → Short (judged_at look image text at rank s).setup.dsegs

@@ -1,5 +1,5 @@
 -- Laws of words and numbers.
-use Rattle.std.specs.Prelude.{Bool, cond, ◌&&◌, List, [], ◌∷◌, ◌≡◌, refl, ℕ, suc, ◌+◌, ◌-◌, ◌≤◌, min, eqb, leb, length, take, drop}
+use Rattle.std.specs.Prelude.{Bool, cond, ◌&&◌, List, [], ◌∷◌, ◌≡◌, refl, ℕ, suc, ◌+◌, ◌-◌, ◌≤◌, min, eqb, leb, length, take, drop, Some, None}
 use Rattle.std.proofs.Common.{arith}
 use Rattle.std.proofs.Math.Dec.{leb-zero, leb-suc-suc}
 use Rattle.std.proofs.Math.Nat.{add-sub_cancel_left}
@@ -9,7 +9,6 @@ use Rattle.octets.specs.PartLaws.{drop_min}
 use Rattle.text.specs.Gaps.{token_place}
 use Rattle.text.specs.Steps.{split}
 use Rattle.text.specs.Tokens.{number_at}
-use Rattle.text.specs.declared.Number.TheVariants as token
 use Rattle.replay_text.specs.Words.{onto, words, whole, number_of}
 use Rattle.replay_text.specs.declared.words.Number.TheVariants.{Is, Bad}
 
@@ -27,11 +26,11 @@ index_le mark (b ∷ l) = split (eqb b mark) (λ e. rw e (omega arith)) (λ e. r
 
 -- ---- numbers
 
-pub number-none : (w : List ℕ) → number_at w 0 ≡ token.Bad → Bad ≡ number_of w
+pub number-none : (w : List ℕ) → number_at w 0 ≡ None → Bad ≡ number_of w
 unfolding number_of whole
 number-none w e = split (eqb (token_place w 0) 0) (λ t. rw (t, e)) (λ t. rw t)
 
-pub number-some : (w : List ℕ) (p value next : ℕ) (t : Bool) → p ≡ token_place w 0 → number_at w 0 ≡ token.Is value next
+pub number-some : (w : List ℕ) (p value next : ℕ) (t : Bool) → p ≡ token_place w 0 → number_at w 0 ≡ Some (value, next)
     → eqb p 0 && eqb next (length w) ≡ t → cond t (Is value) Bad ≡ number_of w
 unfolding number_of whole
 number-some w p value next t e f g =

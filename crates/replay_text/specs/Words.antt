@@ -1,9 +1,7 @@
 -- docs/REPLAY.md: words and numbers.
-use Rattle.std.specs.Prelude.{cond, List, [], ◌∷◌, ℕ, eqb, length}
+use Rattle.std.specs.Prelude.{cond, List, [], ◌∷◌, ℕ, eqb, length, Option, Some, None}
 use Rattle.text.specs.Gaps.{token_place}
 use Rattle.text.specs.Tokens.{number_at}
-use Rattle.text.specs.declared.Number.TheVariants as token
-use Rattle.text.specs.declared.Number as Token
 use Rattle.replay_text.specs.declared.words.Number.{Number}
 use Rattle.replay_text.specs.declared.words.Number.TheVariants.{Is, Bad}
 
@@ -18,9 +16,9 @@ words [] = [] ∷ []
 words (b ∷ l) = cond (eqb b 32) ([] ∷ words l) (onto b (words l))
 
 -- the number, where it ends with the word
-unfoldable pub whole : ℕ → Token.Number → Number
-whole n (token.Is value next) = cond (eqb next n) (Is value) Bad
-whole n token.Bad = Bad
+unfoldable pub whole : ℕ → Option (ℕ × ℕ) → Number
+whole n (Some (value, next)) = cond (eqb next n) (Is value) Bad
+whole n None = Bad
 
 -- "A number is at least one of the digits 0 to 9, zeros in front included, and is no greater than 4,294,967,295": a set-up text's number that fills the word
 unfoldable pub number_of : List ℕ → Number

@@ -25,7 +25,7 @@ pub fn before(mark: u8, text: &[u8], at: usize) -> usize
 pub fn number_of(word: &[u8]) -> Number
     ensures { result ≡ number_of word.now }
 {
-    let text::Number::Is { value, next } = tokens::number_at(word, 0) else {
+    let Some((value, next)) = tokens::number_at(word, 0) else {
         return Number::Bad;
     };
     if (gaps::token_place(word, 0) == 0) & (next == word.len()) {

@@ -1,16 +1,17 @@
 -- Document 01, "Refusals at start": "404 to 413 are tried in that order on one statement before the next is read; 414 .. after the last".
 use Rattle.std.specs.Prelude.{Bool, cond, List, [], ◌++◌, map, ℕ, zero, suc, eqb, leb, length}
 use Rattle.checks.specs.Checks.{Check, after}
-use Rattle.octets.specs.Lists.{part}
+use Rattle.octets.specs.declared.span.Span.{Span}
 use Rattle.text.specs.Gaps.{token_place, line_of}
 use Rattle.statements.specs.Statements.{statement_at}
+use Rattle.statements.specs.declared.Grants.{Grants}
 use Rattle.statements.specs.declared.Statement.{Statement}
 use Rattle.statements.specs.declared.Statement.TheVariants.{Code, Dseg, Mseg, Malformed}
 use Rattle.setup.specs.declared.Segment.{Segment}
 use Rattle.setup.specs.declared.Setup.{Setup}
 use Rattle.setup.specs.declared.Judged.{Judged}
 use Rattle.setup.specs.declared.Outcome.{Outcome}
-use Rattle.octets.specs.Spans.{no_span, span}
+use Rattle.octets.specs.Spans.{no_span, bytes_of}
 use Rattle.setup.specs.Setup.{begun, permission_row, with_code, with_dseg, with_mseg}
 use Rattle.setup.specs.Rules.{code_rank, dseg_rank, mseg_rank, code_checks, dseg_checks, mseg_checks, code_missing}
 
@@ -28,11 +29,13 @@ refused_at text p number = record { number = number; line = line_of text p; next
 unfoldable pub settled : List ℕ → ℕ → List Check → Judged → Judged
 settled text p checks good = cond (eqb (after 0 checks) 0) good (refused_at text p (after 0 checks))
 
-abbrev pub dseg : ℕ → ℕ → ℕ → ℕ → ℕ → Segment
-dseg start n host count bits = record { path = span start n; size = 0; host = host; permissions = permission_row count bits }
+abbrev pub dseg : Span → Grants → Segment
+dseg path grants =
+    record { path = path; size = 0; host = grants.host; permissions = permission_row grants.permissions.count grants.permissions.bits }
 
-abbrev pub mseg : ℕ → ℕ → ℕ → ℕ → Segment
-mseg size host count bits = record { path = no_span; size = size; host = host; permissions = permission_row count bits }
+abbrev pub mseg : ℕ → Grants → Segment
+mseg size grants =
+    record { path = no_span; size = size; host = grants.host; permissions = permission_row grants.permissions.count grants.permissions.bits }
 
 abbrev pub refusal : ℕ → ℕ → Outcome
 refusal number line = record { number = number; line = line; setup = no_setup }
@@ -44,13 +47,14 @@ ended s = cond (code_missing 8 s) (refusal 414 0) (record { number = 0; line = 0
 module _ (look : Bool) (image text : List ℕ) where
   -- the statement whose first token stands at place p
   unfoldable pub judged : ℕ → ℕ → Setup → Statement → Judged
-  judged p rank s (Code partition start n next) =
-      settled text p (code_checks look image rank s partition (part start n text)) (accepted next code_rank (with_code partition (span start n) s))
-  judged p rank s (Dseg index start n host count bits next) =
-      settled text p (dseg_checks look image text rank s index (part start n text) host count bits)
-      (accepted next dseg_rank (with_dseg (dseg start n host count bits) s))
-  judged p rank s (Mseg index size host count bits next) =
-      settled text p (mseg_checks s index size host count bits) (accepted next mseg_rank (with_mseg (mseg size host count bits) s))
+  judged p rank s (Code partition path next) =
+      settled text p (code_checks look image rank s partition (bytes_of text path)) (accepted next code_rank (with_code partition path s))
+  judged p rank s (Dseg index path grants next) =
+      settled text p (dseg_checks look image text rank s index (bytes_of text path) grants.host grants.permissions.count grants.permissions.bits)
+      (accepted next dseg_rank (with_dseg (dseg path grants) s))
+  judged p rank s (Mseg index size grants next) =
+      settled text p (mseg_checks s index size grants.host grants.permissions.count grants.permissions.bits)
+      (accepted next mseg_rank (with_mseg (mseg size grants) s))
   judged p rank s Malformed = refused_at text p 404
 
   unfoldable pub judged_at : ℕ → ℕ → Setup → Judged

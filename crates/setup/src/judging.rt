@@ -4,7 +4,6 @@ ghost use Rattle.statements.specs.Statements.{statement_at, code_at, dseg_at, ms
 ghost use Rattle.setup.specs.Reading.{refused_at, judged};
 
 use super::{Judged, Segment, Setup, Span, rules};
-use octets::parts;
 use statements::{Kind, Statement};
 use text::gaps;
 
@@ -37,23 +36,18 @@ fn code_judged(
 {
     let Statement::Code {
         partition,
-        start,
-        length,
+        path: span,
         next,
     } = statements::code_at(text, behind)
     else {
         return refused(404, text, place);
     };
     let p = partition as usize;
-    let path = parts::piece(text, start, length);
+    let path = span.of(text);
     let number = rules::code_refusal(look, image, rank, setup, p, path);
     if number != 0 {
         return refused(number, text, place);
     }
-    let span = Span {
-        place: start,
-        length,
-    };
     let more = setup.with_code(p, span);
     Judged {
         number: 0,
@@ -78,19 +72,18 @@ fn dseg_judged(
 {
     let Statement::Dseg {
         index,
-        start,
-        length,
-        host,
-        count,
-        permissions,
+        path: span,
+        grants,
         next,
     } = statements::dseg_at(text, behind)
     else {
         return refused(404, text, place);
     };
     let i = index as usize;
-    let h = host as usize;
-    let path = parts::piece(text, start, length);
+    let h = grants.host as usize;
+    let count = grants.permissions.count;
+    let permissions = grants.permissions.bits;
+    let path = span.of(text);
     let number = rules::dseg_refusal(
         look,
         image,
@@ -106,10 +99,6 @@ fn dseg_judged(
     if number != 0 {
         return refused(number, text, place);
     }
-    let span = Span {
-        place: start,
-        length,
-    };
     let row = rules::permission_row(count, permissions);
     let segment = Segment {
         path: span,
@@ -142,16 +131,16 @@ fn mseg_judged(
     let Statement::Mseg {
         index,
         size,
-        host,
-        count,
-        permissions,
+        grants,
         next,
     } = statements::mseg_at(text, behind)
     else {
         return refused(404, text, place);
     };
     let i = index as usize;
-    let h = host as usize;
+    let h = grants.host as usize;
+    let count = grants.permissions.count;
+    let permissions = grants.permissions.bits;
     let number = rules::mseg_refusal(setup, i, size, h, count, permissions);
     if number != 0 {
         return refused(number, text, place);

@@ -15,7 +15,7 @@ use Rattle.setup.specs.declared.Segment.{Segment}
 use Rattle.setup.specs.declared.Setup.{Setup}
 use Rattle.setup.specs.declared.Judged.{Judged}
 use Rattle.setup.specs.declared.Outcome.{Outcome}
-use Rattle.octets.specs.Spans.{no_span, bytes_of, span}
+use Rattle.octets.specs.Spans.{no_span, bytes_of}
 use Rattle.setup.specs.Setup.{no_segment, begun, among, paths_of, path_taken, with_code, with_dseg, with_mseg}
 use Rattle.setup.specs.Rules.{dseg_checks}
 use Rattle.setup.specs.Reading.{settled, judged, judged_at, ended, refusal, read_from, read, refused_at}
@@ -29,7 +29,7 @@ module _ (text : List ℕ) where
   -- ---- the paths of a set-up have the same bytes in both texts
 
   abbrev SamePath : Span → Type 0
-  SamePath p = bytes_of (blanked text) p ≡ bytes_of text p
+  SamePath p = SameBytes text p
 
   abbrev SamePaths : List Span → Type 0
   SamePaths [] = Unit {0}
@@ -72,10 +72,6 @@ module _ (text : List ℕ) where
   unfolding begun
   kept-begun count active = (no_paths 8, no_segments 16)
 
-  span_same : (start n : ℕ) → SameBytes text start n → SamePath (span start n)
-  unfolding bytes_of
-  span_same start n e = e
-
   -- ---- one statement
 
   module _ (look : Bool) (image : List ℕ) where
@@ -103,13 +99,13 @@ module _ (text : List ℕ) where
     judged-same : (p rank : ℕ) (s : Setup) (st : Statement) → Kept s → EndsStatement text st
         → (judged look image (blanked text) p rank s st ≡ judged look image text p rank s st) × GoesOn (judged look image text p rank s st)
     unfolding judged with_code with_dseg with_mseg
-    judged-same p rank s (Code partition start n next) k (o, same) =
-        (rw same (settled_same p _ _), settled_on p _ _ (λ z. (o, (set_same s.code partition (span start n) k.0 (span_same start n same), k.1))))
-    judged-same p rank s (Dseg index start n host count bits next) k (o, same) = (
-      rw (same, checks_same rank s index (part start n text) host count bits k) (settled_same p _ _),
-      settled_on p _ _ (λ z. (o, (k.0, rw (paths_set s.dsegs s.dsegcount _) (set_same (paths_of s.dsegs) s.dsegcount (span start n) k.1 (span_same start n same))))),
+    judged-same p rank s (Code partition path next) k (o, same) =
+        (rw same (settled_same p _ _), settled_on p _ _ (λ z. (o, (set_same s.code partition path k.0 same, k.1))))
+    judged-same p rank s (Dseg index path grants next) k (o, same) = (
+      rw (same, checks_same rank s index (bytes_of text path) grants.host grants.permissions.count grants.permissions.bits k) (settled_same p _ _),
+      settled_on p _ _ (λ z. (o, (k.0, rw (paths_set s.dsegs s.dsegcount _) (set_same (paths_of s.dsegs) s.dsegcount path k.1 same)))),
     )
-    judged-same p rank s (Mseg index size host count bits next) k o = (settled_same p _ _, settled_on p _ _ (λ z. (o, k)))
+    judged-same p rank s (Mseg index size grants next) k o = (settled_same p _ _, settled_on p _ _ (λ z. (o, k)))
     judged-same p rank s Malformed k o = (rw (line-blanked text p), λ z. absurd (let f : ⊥ = omega arith in f))
 
     judged-at-same : (at rank : ℕ) (s : Setup) → Outside text at → Kept s

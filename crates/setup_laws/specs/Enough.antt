@@ -4,7 +4,6 @@ use Rattle.std.proofs.Common.{sym, ◌∙◌, suc-add, length-set, arith, eqb-tr
 use Rattle.std.proofs.lemmas.Bool.{eqb-false, not-false}
 use Rattle.checks.specs.Checks.{Check, ◌when◌, refused, after}
 use Rattle.checks.specs.Laws.{not-due, second-not-due}
-use Rattle.octets.specs.Lists.{part}
 use Rattle.text.specs.Gaps.{token_place}
 use Rattle.statements.specs.Statements.{statement_at, kind_at, statement_of}
 use Rattle.statements.specs.Kinds.{DsegOnly, MsegOnly, dseg_only, mseg_only, statement_of_kind}
@@ -17,7 +16,7 @@ use Rattle.octets.specs.declared.span.Span.{Span}
 use Rattle.setup.specs.declared.Setup.{Setup}
 use Rattle.setup.specs.declared.Judged.{Judged}
 use Rattle.setup.specs.declared.Outcome.{Outcome}
-use Rattle.octets.specs.Spans.{no_span, span}
+use Rattle.octets.specs.Spans.{no_span, bytes_of}
 use Rattle.setup.specs.Setup.{begun, is_active, has_code, with_code, with_dseg, with_mseg}
 use Rattle.setup.specs.Rules.{code_checks, dseg_checks, mseg_checks}
 use Rattle.setup.specs.Reading.{settled, judged, judged_at, ended, refusal, refused_at, read_from, read}
@@ -25,21 +24,21 @@ use Rattle.setup.specs.Reading.{settled, judged, judged_at, ended, refusal, refu
 -- ---- a path is never empty
 
 abbrev Named : Statement → Type 0
-Named (Code partition start n next) = 2 ≤ n
-Named (Dseg index start n host count bits next) = Unit {0}
-Named (Mseg index size host count bits next) = Unit {0}
+Named (Code partition path next) = 2 ≤ path.length
+Named (Dseg index path grants next) = Unit {0}
+Named (Mseg index size grants next) = Unit {0}
 Named Malformed = Unit {0}
 
 code-named : {text : List ℕ} {at : ℕ} {st : Statement} → CodeRead text at st → Named st
-code-named (CodeRead.code partition start n next a b c two e) = two
+code-named (CodeRead.code partition path next a b c two e) = two
 code-named CodeRead.malformed = tt
 
 dseg-named : {st : Statement} → DsegOnly st → Named st
-dseg-named (DsegOnly.dseg index start n host count bits next) = tt
+dseg-named (DsegOnly.dseg index path grants next) = tt
 dseg-named DsegOnly.malformed = tt
 
 mseg-named : {st : Statement} → MsegOnly st → Named st
-mseg-named (MsegOnly.mseg index size host count bits next) = tt
+mseg-named (MsegOnly.mseg index size grants next) = tt
 mseg-named MsegOnly.malformed = tt
 
 named : (text : List ℕ) (at : ℕ) → Named (statement_at text at)
@@ -123,17 +122,17 @@ module _ (look : Bool) (image text : List ℕ) where
 
   judged-less : (p rank : ℕ) (s : Setup) (st : Statement) → Placed s → Named st → Less s (judged look image text p rank s st)
   unfolding judged with_code with_dseg with_mseg room
-  judged-less p rank s (Code partition start n next) k two =
+  judged-less p rank s (Code partition path next) k two =
       settled-less p _ s _ (λ e z.
-      let facts = code_facts rank s partition (part start n text) e in
+      let facts = code_facts rank s partition (bytes_of text path) e in
       let inside : partition < length s.code = omega (arith, active-below s partition facts.0) in
-      let long : eqb n 0 ≡ false = ne_eqb n 0 (λ q. omega arith) in
-      let fall = codes_fall s.code partition (span start n) inside (no_code s partition facts.1) long in
-      (omega arith, rw (length-set s.code partition (span start n)) k))
-  judged-less p rank s (Dseg index start n host count bits next) k two =
-      settled-less p _ s _ (λ e z. let few = dseg_facts rank s index (part start n text) host count bits e in (omega arith, k))
-  judged-less p rank s (Mseg index size host count bits next) k two =
-      settled-less p _ s _ (λ e z. let few = mseg_facts s index size host count bits e in (omega arith, k))
+      let long : eqb path.length 0 ≡ false = ne_eqb path.length 0 (λ q. omega arith) in
+      let fall = codes_fall s.code partition path inside (no_code s partition facts.1) long in
+      (omega arith, rw (length-set s.code partition path) k))
+  judged-less p rank s (Dseg index path grants next) k two =
+      settled-less p _ s _ (λ e z. let few = dseg_facts rank s index (bytes_of text path) grants.host grants.permissions.count grants.permissions.bits e in (omega arith, k))
+  judged-less p rank s (Mseg index size grants next) k two =
+      settled-less p _ s _ (λ e z. let few = mseg_facts s index size grants.host grants.permissions.count grants.permissions.bits e in (omega arith, k))
   judged-less p rank s Malformed k two = λ z. absurd (let f : ⊥ = omega arith in f)
 
   judged-at-less : (at rank : ℕ) (s : Setup) → Placed s → Less s (judged_at look image text at rank s)

@@ -3,7 +3,7 @@ use Rattle.std.specs.Prelude.{Bool, cond, not, ◌&&◌, List, ◌∷◌, ◌≡
 use Rattle.std.proofs.Common.{sym, ◌∙◌, not-suc-le-zero, eqb-true, get_or-set_same, get_or-set_other, arith, length-set}
 use Rattle.std.proofs.Math.Decide.{dec_le}
 use Rattle.std.proofs.lemmas.Bool.{false≢true, eqb-false}
-use Rattle.octets.specs.Lists.{part}
+use Rattle.octets.specs.declared.span.Span.{Span}
 use Rattle.octets.specs.PartLaws.{length-part_in}
 use Rattle.checks.specs.Checks.{Check, ◌when◌, refused, after}
 use Rattle.checks.specs.Laws.{second-not-due}
@@ -21,7 +21,7 @@ use Rattle.setup.specs.declared.Segment.{Segment}
 use Rattle.setup.specs.declared.Setup.{Setup}
 use Rattle.setup.specs.declared.Judged.{Judged}
 use Rattle.setup.specs.declared.Outcome.{Outcome}
-use Rattle.octets.specs.Spans.{span, bytes_of}
+use Rattle.octets.specs.Spans.{bytes_of}
 use Rattle.setup.specs.Setup.{no_segment, begun, with_code, with_dseg, with_mseg}
 use Rattle.setup.specs.Rules.{reserved, absent, dseg_checks, code_missing}
 use Rattle.setup.specs.Reading.{settled, judged, judged_at, ended, refusal, refused_at, read_from, read}
@@ -30,21 +30,21 @@ use Rattle.setup.specs.Turns.{dseg-room, mseg-room}
 -- ---- the path of a DSEG statement lies inside the text
 
 abbrev Inside : List ℕ → Statement → Type 0
-Inside text (Code partition start n next) = Unit {0}
-Inside text (Dseg index start n host count bits next) = start + n ≤ length text
-Inside text (Mseg index size host count bits next) = Unit {0}
+Inside text (Code partition path next) = Unit {0}
+Inside text (Dseg index path grants next) = path.place + path.length ≤ length text
+Inside text (Mseg index size grants next) = Unit {0}
 Inside text Malformed = Unit {0}
 
 code_inside : (text : List ℕ) {st : Statement} → CodeOnly st → Inside text st
-code_inside text (CodeOnly.code partition start n next) = tt
+code_inside text (CodeOnly.code partition path next) = tt
 code_inside text CodeOnly.malformed = tt
 
 dseg-inside : {text : List ℕ} {at : ℕ} {st : Statement} → DsegRead text at st → Inside text st
-dseg-inside (DsegRead.dseg index start n host count bits next inside two most low rest) = inside
+dseg-inside (DsegRead.dseg index path grants next inside two most low rest) = inside
 dseg-inside DsegRead.malformed = tt
 
 mseg-inside : (text : List ℕ) {st : Statement} → MsegOnly st → Inside text st
-mseg-inside text (MsegOnly.mseg index size host count bits next) = tt
+mseg-inside text (MsegOnly.mseg index size grants next) = tt
 mseg-inside text MsegOnly.malformed = tt
 
 inside : (text : List ℕ) (at : ℕ) → Inside text (statement_at text at)
@@ -94,14 +94,14 @@ module _ (text store : List ℕ) where
   free-there true e = refl
   free-there false e = absurd (false≢true (sym e))
 
-  dseg-declared : (rank : ℕ) (s : Setup) (index start n host count bits : ℕ) (seg : Segment) → start + n ≤ length text → seg.path ≡ span start n
-      → after 0 (dseg_checks true store text rank s index (part start n text) host count bits) ≡ 0 → Declared seg
+  dseg-declared : (rank : ℕ) (s : Setup) (index : ℕ) (path : Span) (host count bits : ℕ) (seg : Segment) → path.place + path.length ≤ length text → seg.path ≡ path
+      → after 0 (dseg_checks true store text rank s index (bytes_of text path) host count bits) ≡ 0 → Declared seg
   unfolding dseg_checks absent bytes_of
-  dseg-declared rank s index start n host count bits seg fits is e =
+  dseg-declared rank s index path host count bits seg fits is e =
       record {
-        free = rw is (sixth_not-due 0 410 _ _ _ _ _ (reserved (part start n text)) _ e (λ q. omega arith));
-        there = rw is (free-there (was_found (spot (part start n text) store)) (seventh_not-due 0 411 _ _ _ _ _ _ _ _ e (λ q. omega arith)));
-        long = rw is (length-part_in start n text fits);
+        free = rw is (sixth_not-due 0 410 _ _ _ _ _ (reserved (bytes_of text path)) _ e (λ q. omega arith));
+        there = rw is (free-there (was_found (spot (bytes_of text path) store)) (seventh_not-due 0 411 _ _ _ _ _ _ _ _ e (λ q. omega arith)));
+        long = rw is (length-part_in path.place path.length text fits);
       }
 
   module _ (count : ℕ) (active : List Bool) where
@@ -127,7 +127,7 @@ module _ (text store : List ℕ) where
 
     judged-keeps : (p rank : ℕ) (s : Setup) (st : Statement) → SetUp count active s → Inside text st → Keeps (judged true store text p rank s st)
     unfolding judged with_code with_dseg with_mseg
-    judged-keeps p rank s (Code partition start n next) k fits =
+    judged-keeps p rank s (Code partition path next) k fits =
         settled-keeps p _ _ (λ e z.
         record {
           partitions = k.partitions;
@@ -137,20 +137,20 @@ module _ (text store : List ℕ) where
           rows = k.rows;
           declared = k.declared;
         })
-    judged-keeps p rank s (Dseg index start n host count1 bits next) k fits =
+    judged-keeps p rank s (Dseg index path grants next) k fits =
         settled-keeps p _ _ (λ e z.
-        let few = dseg-room true store text rank s index (part start n text) host count1 bits 0 (sym e) refl in
+        let few = dseg-room true store text rank s index (bytes_of text path) grants.host grants.permissions.count grants.permissions.bits 0 (sym e) refl in
         record {
           partitions = k.partitions;
           flags = k.flags;
           dsegs_few = omega arith;
           msegs_few = k.msegs_few;
           rows = length-set s.dsegs s.dsegcount _ ∙ k.rows;
-          declared = more-declared s _ k few (dseg-declared rank s index start n host count1 bits _ fits refl e);
+          declared = more-declared s _ k few (dseg-declared rank s index path grants.host grants.permissions.count grants.permissions.bits _ fits refl e);
         })
-    judged-keeps p rank s (Mseg index size host count1 bits next) k fits =
+    judged-keeps p rank s (Mseg index size grants next) k fits =
         settled-keeps p _ _ (λ e z.
-        let few = mseg-room s index size host count1 bits 0 (sym e) refl in
+        let few = mseg-room s index size grants.host grants.permissions.count grants.permissions.bits 0 (sym e) refl in
         record {
           partitions = k.partitions;
           flags = k.flags;

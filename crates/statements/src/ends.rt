@@ -2,90 +2,63 @@
 ghost use Rattle.std.specs.Prelude.{◌≡◌};
 ghost use Rattle.statements.specs.Statements.{permission_at, packed, permissions_at, tail_at};
 
-use super::{Permissions, Tail};
-use text::{Mark, Number, tokens};
+use super::{Grants, Permission, Permissions};
+use text::tokens;
 
-// A permission, 0 NA, 1 RO, 2 RW, and the place behind it.
-fn permission_at(text: &[u8], at: usize) -> Number
+// A permission, and the place behind it.
+#[tactic(auto, unfolding(crate::specs::Statements::permission_at))]
+fn permission_at(text: &[u8], at: usize) -> Option<(Permission, usize)>
     ensures { result ≡ permission_at text.now at }
 {
-    if let Mark::Behind(next) = tokens::word_at(b"RW", text, at) {
-        return Number::Is { value: 2, next };
+    if let Some(next) = tokens::word_at(b"RW", text, at) {
+        return Some((Permission::ReadWrite, next));
     }
-    if let Mark::Behind(next) = tokens::word_at(b"RO", text, at) {
-        return Number::Is { value: 1, next };
+    if let Some(next) = tokens::word_at(b"RO", text, at) {
+        return Some((Permission::ReadOnly, next));
     }
-    if let Mark::Behind(next) = tokens::word_at(b"NA", text, at) {
-        return Number::Is { value: 0, next };
+    if let Some(next) = tokens::word_at(b"NA", text, at) {
+        return Some((Permission::NoAccess, next));
     }
-    Number::Bad
+    None
 }
 
 // One permission more in the number that holds the last eight.
-fn packed(bits: u32, permission: u64) -> u32
+#[tactic(auto, unfolding(crate::specs::Statements::packed))]
+fn packed(bits: u32, permission: Permission) -> u32
     ensures { result ≡ packed bits permission }
 {
-    let lowest = (permission % 65536) as u32;
-    (bits % 16384 * 4 + lowest) % 65536
+    (bits % 16384 * 4 + permission.bits()) % 65536
 }
 
 // Permissions, each behind a comma; each takes three bytes at least, so that there are fewer than the text has bytes.
-fn permissions_at(text: &[u8], at: usize) -> Permissions
+fn permissions_at(text: &[u8], at: usize) -> Option<(Permissions, usize)>
     ensures { result ≡ permissions_at text.now at }
 {
-    let mut count: usize = 0;
     let mut bits: u32 = 0;
     let mut place = at;
-    while count < text.len() {
-        let Mark::Behind(a) = tokens::word_at(b",", text, place) else {
-            return Permissions::Are {
-                count,
-                packed: bits,
-                next: place,
-            };
+    for count in 0..text.len() {
+        let Some(behind) = tokens::word_at(b",", text, place) else {
+            return Some((Permissions { count, bits }, place));
         };
-        let Number::Is { value, next } = permission_at(text, a) else {
-            return Permissions::Bad;
-        };
-        bits = packed(bits, value);
+        let (permission, next) = permission_at(text, behind)?;
+        bits = packed(bits, permission);
         place = next;
-        count += 1;
     }
-    Permissions::Bad
+    None
 }
 
-// `, host, permissions };`, with one permission at least.
+/// `, host, permissions };`, with one permission at least, and the place behind it.
 #[tactic(auto, unfolding(crate::specs::Statements::tail_at))]
-pub fn tail_at(text: &[u8], at: usize) -> Tail
+pub fn tail_at(text: &[u8], at: usize) -> Option<(Grants, usize)>
     ensures { result ≡ tail_at text.now at }
 {
-    let Mark::Behind(a) = tokens::word_at(b",", text, at) else {
-        return Tail::Bad;
-    };
-    let Number::Is { value, next: b } = tokens::number_at(text, a) else {
-        return Tail::Bad;
-    };
-    let Permissions::Are {
-        count,
-        packed,
-        next: c,
-    } = permissions_at(text, b)
-    else {
-        return Tail::Bad;
-    };
-    if count == 0 {
-        return Tail::Bad;
+    let at = tokens::word_at(b",", text, at)?;
+    let (host, at) = tokens::number_at(text, at)?;
+    let (permissions, at) = permissions_at(text, at)?;
+    if permissions.count == 0 {
+        return None;
     }
-    let Mark::Behind(d) = tokens::word_at(b"}", text, c) else {
-        return Tail::Bad;
-    };
-    let Mark::Behind(e) = tokens::word_at(b";", text, d) else {
-        return Tail::Bad;
-    };
-    Tail::Is {
-        host: value,
-        count,
-        permissions: packed,
-        next: e,
-    }
+    let at = tokens::word_at(b"}", text, at)?;
+    let at = tokens::word_at(b";", text, at)?;
+    Some((Grants { host, permissions }, at))
 }

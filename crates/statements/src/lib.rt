@@ -1,16 +1,17 @@
-// One statement of the set-up text at a time (document 01, "Set-up text"; 003, section 2). It is read as it stands; whether it may
-// stand there is judged above. Every function takes any text and any place in it.
+//! One statement of the set-up text at a time. It is read as it stands; whether it may stand there is judged above. Every function
+//! takes any text and any place in it.
 #![tactic(auto)]
 
-use text::{Mark, Number, Path, tokens};
+use octets::span::Span;
+use text::tokens;
 
 mod ends;
 
 ghost use Rattle.std.specs.Prelude.{◌≡◌};
 ghost use Rattle.statements.specs.Statements.{kind_at, head_at, code_at, dseg_at, mseg_at};
 
-// Which statement the next token begins, and the place behind that token.
-#[derive(Clone, Copy)]
+/// Which statement the next token begins, and the place behind that token.
+#[derive(Clone, Copy, Debug, PartialEq, Eq)]
 pub enum Kind {
     Code(usize),
     Dseg(usize),
@@ -18,193 +19,170 @@ pub enum Kind {
     Other,
 }
 
-// What stands at a place.
-#[derive(Clone, Copy)]
+/// What a partition may do with a segment.
+#[derive(Clone, Copy, Debug, PartialEq, Eq)]
+pub enum Permission {
+    /// NA
+    NoAccess,
+    /// RO
+    ReadOnly,
+    /// RW
+    ReadWrite,
+}
+
+impl Permission {
+    ghost use Rattle.statements.specs.Statements.{bits_of};
+
+    /// Its two bits: 0 NA, 1 RO, 2 RW.
+    pub fn bits(self) -> u32
+        ensures { result ≡ bits_of self }
+    {
+        match self {
+            Permission::NoAccess => 0,
+            Permission::ReadOnly => 1,
+            Permission::ReadWrite => 2,
+        }
+    }
+}
+
+/// How many permissions a statement gives, and the last eight of them, two bits for each, the last one lowest.
+// Stays a number: what is accepted has at most eight, and a row of enums would be longer than its check ("Forms that stay").
+#[derive(Clone, Copy, Debug, PartialEq, Eq)]
+pub struct Permissions {
+    pub count: usize,
+    pub bits: u32,
+}
+
+/// The end of a DSEG or an MSEG: its host and its permissions.
+#[derive(Clone, Copy, Debug, PartialEq, Eq)]
+pub struct Grants {
+    pub host: u64,
+    pub permissions: Permissions,
+}
+
+/// What stands at a place, and the place behind it.
+// Stays: an answer that the caller takes apart by `let .. else`, whose else arm is the refusal (docs/DECISIONS.md, "Forms that stay").
+#[derive(Clone, Copy, Debug, PartialEq, Eq)]
 pub enum Statement {
-    // CODE[partition] = path;
+    /// `CODE[partition] = path;`
     Code {
         partition: u64,
-        start: usize,
-        length: usize,
+        path: Span,
         next: usize,
     },
-    // DSEG[index] = { path, host, permissions };
+    /// `DSEG[index] = { path, host, permissions };`
     Dseg {
         index: u64,
-        start: usize,
-        length: usize,
-        host: u64,
-        count: usize,
-        permissions: u32,
+        path: Span,
+        grants: Grants,
         next: usize,
     },
-    // MSEG[index] = { size, host, permissions };
+    /// `MSEG[index] = { size, host, permissions };`
     Mseg {
         index: u64,
         size: u64,
-        host: u64,
-        count: usize,
-        permissions: u32,
+        grants: Grants,
         next: usize,
     },
     Malformed,
 }
 
-// The end of a DSEG or an MSEG: how many permissions it gives, the last eight of them (two bits for each, the
-// last one lowest: 0 NA, 1 RO, 2 RW), its host, and the place behind it.
-#[derive(Clone, Copy)]
-pub enum Tail {
-    Is {
-        host: u64,
-        count: usize,
-        permissions: u32,
-        next: usize,
-    },
-    Bad,
-}
-
-// A row of permissions.
-#[derive(Clone, Copy)]
-pub enum Permissions {
-    Are {
-        count: usize,
-        packed: u32,
-        next: usize,
-    },
-    Bad,
-}
-
-// Which statement the next token begins.
+/// Which statement the next token begins.
+#[tactic(auto, unfolding(crate::specs::Statements::kind_at))]
 pub fn kind_at(text: &[u8], at: usize) -> Kind
     ensures { result ≡ kind_at text.now at }
 {
-    if let Mark::Behind(next) = tokens::word_at(b"CODE", text, at) {
+    if let Some(next) = tokens::word_at(b"CODE", text, at) {
         return Kind::Code(next);
     }
-    if let Mark::Behind(next) = tokens::word_at(b"DSEG", text, at) {
+    if let Some(next) = tokens::word_at(b"DSEG", text, at) {
         return Kind::Dseg(next);
     }
-    if let Mark::Behind(next) = tokens::word_at(b"MSEG", text, at) {
+    if let Some(next) = tokens::word_at(b"MSEG", text, at) {
         return Kind::Mseg(next);
     }
     Kind::Other
 }
 
 // `[number] =`, and the place behind it.
-fn head_at(text: &[u8], at: usize) -> Number
+#[tactic(auto, unfolding(crate::specs::Statements::head_at))]
+fn head_at(text: &[u8], at: usize) -> Option<(u64, usize)>
     ensures { result ≡ head_at text.now at }
 {
-    let Mark::Behind(a) = tokens::word_at(b"[", text, at) else {
-        return Number::Bad;
-    };
-    let Number::Is { value, next: b } = tokens::number_at(text, a) else {
-        return Number::Bad;
-    };
-    let Mark::Behind(c) = tokens::word_at(b"]", text, b) else {
-        return Number::Bad;
-    };
-    let Mark::Behind(d) = tokens::word_at(b"=", text, c) else {
-        return Number::Bad;
-    };
-    Number::Is { value, next: d }
+    let at = tokens::word_at(b"[", text, at)?;
+    let (number, at) = tokens::number_at(text, at)?;
+    let at = tokens::word_at(b"]", text, at)?;
+    let at = tokens::word_at(b"=", text, at)?;
+    Some((number, at))
 }
 
-// A CODE statement, from behind its word.
+/// A CODE statement, from behind its word.
+#[tactic(auto, unfolding(crate::specs::Statements::code_at))]
 pub fn code_at(text: &[u8], at: usize) -> Statement
     ensures { result ≡ code_at text.now at }
 {
-    let Number::Is { value, next: a } = head_at(text, at) else {
+    let Some((partition, at)) = head_at(text, at) else {
         return Statement::Malformed;
     };
-    let Path::Is {
-        start,
-        length,
-        next: b,
-    } = tokens::path_at(text, a)
-    else {
+    let Some((path, at)) = tokens::path_at(text, at) else {
         return Statement::Malformed;
     };
-    let Mark::Behind(c) = tokens::word_at(b";", text, b) else {
+    let Some(next) = tokens::word_at(b";", text, at) else {
         return Statement::Malformed;
     };
     Statement::Code {
-        partition: value,
-        start,
-        length,
-        next: c,
+        partition,
+        path,
+        next,
     }
 }
 
-// A DSEG statement, from behind its word.
+/// A DSEG statement, from behind its word.
+#[tactic(auto, unfolding(crate::specs::Statements::dseg_at))]
 pub fn dseg_at(text: &[u8], at: usize) -> Statement
     ensures { result ≡ dseg_at text.now at }
 {
-    let Number::Is { value, next: a } = head_at(text, at) else {
+    let Some((index, at)) = head_at(text, at) else {
         return Statement::Malformed;
     };
-    let Mark::Behind(b) = tokens::word_at(b"{", text, a) else {
+    let Some(at) = tokens::word_at(b"{", text, at) else {
         return Statement::Malformed;
     };
-    let Path::Is {
-        start,
-        length,
-        next: c,
-    } = tokens::path_at(text, b)
-    else {
+    let Some((path, at)) = tokens::path_at(text, at) else {
         return Statement::Malformed;
     };
-    let Tail::Is {
-        host,
-        count,
-        permissions,
-        next: d,
-    } = ends::tail_at(text, c)
-    else {
+    let Some((grants, next)) = ends::tail_at(text, at) else {
         return Statement::Malformed;
     };
     Statement::Dseg {
-        index: value,
-        start,
-        length,
-        host,
-        count,
-        permissions,
-        next: d,
+        index,
+        path,
+        grants,
+        next,
     }
 }
 
-// An MSEG statement, from behind its word.
+/// An MSEG statement, from behind its word.
+#[tactic(auto, unfolding(crate::specs::Statements::mseg_at))]
 pub fn mseg_at(text: &[u8], at: usize) -> Statement
     ensures { result ≡ mseg_at text.now at }
 {
-    let Number::Is { value, next: a } = head_at(text, at) else {
+    let Some((index, at)) = head_at(text, at) else {
         return Statement::Malformed;
     };
-    let Mark::Behind(b) = tokens::word_at(b"{", text, a) else {
+    let Some(at) = tokens::word_at(b"{", text, at) else {
         return Statement::Malformed;
     };
-    let Number::Is {
-        value: size,
-        next: c,
-    } = tokens::size_at(text, b)
-    else {
+    let Some((size, at)) = tokens::size_at(text, at) else {
         return Statement::Malformed;
     };
-    let Tail::Is {
-        host,
-        count,
-        permissions,
-        next: d,
-    } = ends::tail_at(text, c)
-    else {
+    let Some((grants, next)) = ends::tail_at(text, at) else {
         return Statement::Malformed;
     };
     Statement::Mseg {
-        index: value,
+        index,
         size,
-        host,
-        count,
-        permissions,
-        next: d,
+        grants,
+        next,
     }
 }

@@ -1,22 +1,19 @@
 -- The comment rule twice: read from a place outside comments, every token of a text is that of the text with its comments blanked, and
 -- the place behind it is outside comments again.
-use Rattle.std.specs.Prelude.{Bool, true, false, ◌&&◌, not, ◌≡◌, ℕ, ◌+◌, eqb, length, take, drop, List, [], ◌∷◌, refl}
+use Rattle.std.specs.Prelude.{Bool, true, false, ◌&&◌, not, ◌≡◌, ℕ, ◌+◌, eqb, length, take, drop, List, [], ◌∷◌, refl, Option, Some, None}
 use Rattle.std.proofs.Common.{sym, ap, ◌∙◌, eqb-true, ne_eqb, get_or-drop}
 use Rattle.std.proofs.Math.Bool.{and-eq-true_iff}
 use Rattle.std.proofs.lemmas.Bool.{false≢true, eqb-false, not-true}
 use Rattle.octets.specs.Lists.{part}
 use Rattle.octets.specs.Same.{same_bytes, same-eq}
-use Rattle.text.specs.Answers.{no_number, word-is, number_is, sized_cases, path_of_is, quoted_is}
+use Rattle.octets.specs.Spans.{span}
+use Rattle.text.specs.Answers.{no_number, some_is, word-is, number_is, sized_cases, path_of_is, quoted_is}
 use Rattle.text.specs.Bytes.{byte_at, is_digit, in_path, in_bare_path}
 use Rattle.text.specs.Gaps.{token_place, line_of}
 use Rattle.text.specs.Comments.{blanked_from, blanked, comment_behind, Outside, plain}
 use Rattle.text.specs.CommentLaws.{outside-drop, outside-bytes, outside-byte, outside-run, outside-place, place-blanked, line-blanked, byte-drop, behind-nil, behind-cons}
 use Rattle.text.specs.Steps.{split}
 use Rattle.text.specs.Tokens.{run, word_at, number_from, number_at, sized, with_unit, size_at, path_of, quoted_path, bare_path, path_at}
-use Rattle.text.specs.declared.Mark.TheVariants.{Behind}
-use Rattle.text.specs.declared.Number.{Number}
-use Rattle.text.specs.declared.Number.TheVariants as number
-use Rattle.text.specs.declared.Path.TheVariants as path
 
 -- ---- words and marks
 
@@ -53,7 +50,7 @@ pub word-blanked : (word text : List ℕ) (at : ℕ) → plain word ≡ true →
 unfolding word_at
 word-blanked word text at e h = rw (place-blanked text at h, part_same word text (token_place text at) (outside-place text at h) e)
 
-pub word-outside : (word text : List ℕ) (at next : ℕ) → plain word ≡ true → Outside text at → word_at word text at ≡ Behind next → Outside text next
+pub word-outside : (word text : List ℕ) (at next : ℕ) → plain word ≡ true → Outside text at → word_at word text at ≡ Some next → Outside text next
 word-outside word text at next e h r =
     let p = token_place text at in
     let told = word-is word text at next r in
@@ -85,7 +82,7 @@ pub number-blanked : (text : List ℕ) (at : ℕ) → Outside text at → number
 unfolding number_at
 number-blanked text at h = rw (place-blanked text at h) (number-from-blanked text (token_place text at) (outside-place text at h))
 
-pub number-outside : (text : List ℕ) (at value next : ℕ) → Outside text at → number_at text at ≡ number.Is value next → Outside text next
+pub number-outside : (text : List ℕ) (at value next : ℕ) → Outside text at → number_at text at ≡ Some (value, next) → Outside text next
 unfolding number_at
 number-outside text at value next h r =
     let p = token_place text at in
@@ -100,25 +97,25 @@ pub size-blanked : (text : List ℕ) (at : ℕ) → Outside text at → size_at 
 unfolding size_at with_unit
 size-blanked text at h = rw (number-blanked text at h) (go (number_at text at) refl)
   where
-    go : (r : Number) → number_at text at ≡ r → with_unit (blanked text) r ≡ with_unit text r
-    go (number.Is value p) e = sized-blanked value text p (number-outside text at value p h e)
-    go number.Bad e = refl
+    go : (r : Option (ℕ × ℕ)) → number_at text at ≡ r → with_unit (blanked text) r ≡ with_unit text r
+    go (Some (value, p)) e = ap (λ (n : ℕ × ℕ). Some n) (sized-blanked value text p (number-outside text at value p h e))
+    go None e = refl
 
-sized-outside : (value : ℕ) (text : List ℕ) (p size next : ℕ) → Outside text p → sized value text p ≡ number.Is size next → Outside text next
+sized-outside : (value : ℕ) (text : List ℕ) (p size next : ℕ) → Outside text p → sized value text p ≡ (size, next) → Outside text next
 sized-outside value text p size next h =
-    sized_cases (λ r. r ≡ number.Is size next → Outside text next) value text p
-    (λ q. let n : p ≡ next = cc in rw n at h)
+    sized_cases (λ r. r ≡ (size, next) → Outside text next) value text p
+    (λ q. let n : p ≡ next = ap (λ (t : ℕ × ℕ). t.1) q in rw n at h)
     (λ k a b most free t q.
-    let n : p + 2 ≡ next = cc in
+    let n : p + 2 ≡ next = ap (λ (t : ℕ × ℕ). t.1) q in
     rw n at (outside-bytes text p (a ∷ b ∷ []) h (same-eq (part p 2 text) (a ∷ b ∷ []) t) (plain_calm (a ∷ b ∷ []) free)))
 
-pub size-outside : (text : List ℕ) (at size next : ℕ) → Outside text at → size_at text at ≡ number.Is size next → Outside text next
+pub size-outside : (text : List ℕ) (at size next : ℕ) → Outside text at → size_at text at ≡ Some (size, next) → Outside text next
 unfolding size_at with_unit
 size-outside text at size next h e = go (number_at text at) refl e
   where
-    go : (r : Number) → number_at text at ≡ r → with_unit text r ≡ number.Is size next → Outside text next
-    go (number.Is value p) f g = sized-outside value text p size next (number-outside text at value p h f) g
-    go number.Bad f g = absurd (no_number size next g)
+    go : (r : Option (ℕ × ℕ)) → number_at text at ≡ r → with_unit text r ≡ Some (size, next) → Outside text next
+    go (Some (value, p)) f g = sized-outside value text p size next (number-outside text at value p h f) (some_is g)
+    go None f g = absurd (no_number size next g)
 
 -- ---- paths
 
@@ -203,19 +200,19 @@ path-blanked text at h =
     (λ t. rw t (quoted_blanked text (p + 1) (quote_outside text p o t)))
     (λ t. rw t (bare-blanked text p o)))
 
-quoted_outside : (text : List ℕ) (p start n next : ℕ) → Outside text p → quoted_path text p ≡ path.Is start n next → Outside text next
+quoted_outside : (text : List ℕ) (p start n next : ℕ) → Outside text p → quoted_path text p ≡ Some (span start n, next) → Outside text next
 quoted_outside text p start n next h e =
     let k = run in_path (drop p text) in
     let told = quoted_is text p start n next e in
     rw (path_of_is text p k (p + k + 1) start n next told.1).5 at (quote_outside text (p + k) (outside-run in_path refl text p h) told.0)
 
-bare-outside : (text : List ℕ) (p start n next : ℕ) → Outside text p → bare_path text p ≡ path.Is start n next → Outside text next
+bare-outside : (text : List ℕ) (p start n next : ℕ) → Outside text p → bare_path text p ≡ Some (span start n, next) → Outside text next
 unfolding bare_path
 bare-outside text p start n next h e =
     let k = run in_bare_path (drop p text) in
     rw (path_of_is text p k (p + k) start n next e).5 at (outside-run in_bare_path refl text p h)
 
-pub path-outside : (text : List ℕ) (at start n next : ℕ) → Outside text at → path_at text at ≡ path.Is start n next → Outside text next
+pub path-outside : (text : List ℕ) (at start n next : ℕ) → Outside text at → path_at text at ≡ Some (span start n, next) → Outside text next
 unfolding path_at
 path-outside text at start n next h e =
     let p = token_place text at in
@@ -231,12 +228,12 @@ unfolding part
 run-bytes test t text p h = rw (outside-drop text p h) (take-run-blanked test t (drop p text))
 
 path_of_bytes : (test : ℕ → Bool) → test 35 ≡ false → (text : List ℕ) (p behind start n next : ℕ) → Outside text p
-    → path_of text p (run test (drop p text)) behind ≡ path.Is start n next → part start n (blanked text) ≡ part start n text
+    → path_of text p (run test (drop p text)) behind ≡ Some (span start n, next) → part start n (blanked text) ≡ part start n text
 path_of_bytes test t text p behind start n next h e =
     let told = path_of_is text p (run test (drop p text)) behind start n next e in
     rw (← told.4, ← told.3) (run-bytes test t text p h)
 
-pub path_bytes : (text : List ℕ) (at start n next : ℕ) → Outside text at → path_at text at ≡ path.Is start n next
+pub path_bytes : (text : List ℕ) (at start n next : ℕ) → Outside text at → path_at text at ≡ Some (span start n, next)
     → part start n (blanked text) ≡ part start n text
 unfolding path_at bare_path
 path_bytes text at start n next h e =

@@ -1,4 +1,4 @@
--- Document 01, "Set-up text": which bytes are what.
+-- The set-up text: which bytes are what.
 use Rattle.std.specs.Prelude.{Bool, ◌&&◌, ◌||◌, not, List, ℕ, eqb, leb, get_or}
 
 -- the byte at a place. Behind the text's end stands 256, which is no byte and so is none of those below

@@ -1,4 +1,4 @@
--- Document 01, "Set-up text": gaps between tokens. "'#' begins a comment to the line's end everywhere".
+-- The set-up text: gaps between tokens. A comment goes from its mark to the end of its line, everywhere.
 use Rattle.std.specs.Prelude.{Bool, true, false, cond, not, List, [], ◌∷◌, ℕ, suc, ◌+◌, eqb, take, drop}
 use Rattle.text.specs.Bytes.{separates}
 

@@ -1,4 +1,4 @@
--- The set-up text in document 01's words (Bytes, Gaps, Comments, Tokens), and what follows from them for the levels above.
+-- The set-up text byte by byte (Bytes, Gaps, Comments, Tokens), and what follows from it for the levels above.
 pub mod Bytes
 pub mod Gaps
 pub mod Comments

@@ -1,43 +1,38 @@
 // Bytes of one class, one behind the other, and the number that digits spell.
-ghost use Rattle.std.specs.Prelude.{◌≡◌, ◌+◌, ◌-◌, ◌*◌, ◌≤◌, min, drop};
+ghost use Rattle.std.specs.Prelude.{◌≡◌, ◌+◌, ◌-◌, ◌*◌, ◌≤◌, length, eqb, min, drop};
+ghost use Rattle.std.specs.List.{take_while};
 ghost use Rattle.text.specs.Bytes.{byte_at, is_digit, in_path, in_bare_path};
 ghost use Rattle.text.specs.Tokens.{run, decimal_from};
 ghost use Rattle.text.specs.Steps.{of_class};
 
 use super::Class;
 
-fn wide(b: u8) -> u64
-    ensures { result ≡ b }
-{
-    b as u64
-}
+// One more than the largest number of a text.
+const LIMIT: u64 = 4_294_967_296;
 
-// The byte at place `at`; behind the end 256.
-pub fn byte_at(text: &[u8], at: usize) -> u64
-    ensures { result ≡ byte_at text.now at }
+// Whether the byte b stands at place `at`.
+pub fn is_at(text: &[u8], at: usize, b: u8) -> bool
+    ensures { result ≡ eqb (byte_at text.now at) b }
 {
-    if at < text.len() {
-        return wide(text[at]);
-    }
-    256
+    text.get(at).is_some_and(|there| *there == b)
 }
 
 fn is_digit(b: u8) -> bool
     ensures { result ≡ is_digit b }
 {
-    (48 <= b) & (b <= 57)
+    b.is_ascii_digit()
 }
 
 fn in_path(b: u8) -> bool
     ensures { result ≡ in_path b }
 {
-    ((32 <= b) & (b <= 126)) & ((b != 34) & (b != 35))
+    (b' '..=b'~').contains(&b) && !matches!(b, b'"' | b'#')
 }
 
 fn in_bare_path(b: u8) -> bool
     ensures { result ≡ in_bare_path b }
 {
-    in_path(b) & ((b != 32) & ((b != 44) & ((b != 59) & ((b != 123) & (b != 125)))))
+    in_path(b) && !matches!(b, b' ' | b',' | b';' | b'{' | b'}')
 }
 
 // Whether the byte b is of this class.
@@ -51,52 +46,39 @@ fn of_class(class: Class, b: u8) -> bool
     }
 }
 
-// The place behind the bytes of this class that stand from place `at` on.
-pub fn behind(class: Class, text: &[u8], at: usize) -> usize
-    ensures { result ≡ at + run (of_class class) (drop at text.now) }
+// The bytes from place `at` on.
+fn rest(text: &[u8], at: usize) -> &[u8]
+    ensures { result.now ≡ drop at text.now }
 {
-    let mut i = at;
-    while i < text.len() {
-        let on = of_class(class, text[i]);
-        if !on {
-            return i;
-        }
-        i += 1;
-    }
-    i
+    text.get(at..).unwrap_or(&[])
 }
 
-// What the digit b counts; a byte below the digits counts 0.
-fn worth(b: u8) -> u64
-    ensures { result ≡ b - 48 }
+// How many bytes of this class stand at the start, one behind the other.
+fn prefix(class: Class, text: &[u8]) -> usize
+    ensures { result ≡ length (take_while (of_class class) text.now) }
 {
-    if b < 48 {
-        return 0;
-    }
-    wide(b) - 48
+    text.iter().take_while(|b| of_class(class, **b)).count()
 }
 
-// A number that is at most 4,294,967,296, with one more digit, or 4,294,967,296 where that is less.
+// How many bytes of this class stand from place `at` on, one behind the other.
+pub fn run(class: Class, text: &[u8], at: usize) -> usize
+    ensures all { result ≡ run (of_class class) (drop at text.now) }
+    ensures inside { result ≤ length text.now - at }
+{
+    prefix(class, rest(text, at))
+}
+
+// A number with one more digit, or LIMIT where that is less; a byte below the digits counts 0.
 fn digit_more(value: u64, b: u8) -> u64
-    requires { value ≤ 4294967296 }
     ensures { result ≡ min (value * 10 + (b - 48)) 4294967296 }
 {
-    let more = value * 10 + worth(b);
-    if more < 4294967296 {
-        return more;
-    }
-    4294967296
+    let digit = u64::from(b.saturating_sub(b'0'));
+    value.saturating_mul(10).saturating_add(digit).min(LIMIT)
 }
 
-// The number that digits spell, or 4,294,967,296 where that is less.
+// The number that digits spell, or LIMIT where that is less.
 pub fn decimal(digits: &[u8]) -> u64
     ensures { result ≡ min (decimal_from 0 digits.now) 4294967296 }
 {
-    let mut value: u64 = 0;
-    let mut i = 0;
-    while i < digits.len() {
-        value = digit_more(value, digits[i]);
-        i += 1;
-    }
-    value
+    digits.iter().fold(0, |value, b| digit_more(value, *b))
 }

@@ -2,116 +2,112 @@
 ghost use Rattle.std.specs.Prelude.{◌≡◌, ◌≤◌};
 ghost use Rattle.text.specs.Tokens.{word_at, number_at, sized, size_at, path_of, quoted_path, bare_path, path_at};
 
-use super::{Class, Mark, Number, Path, gaps, runs};
+use super::{Class, gaps, runs};
+use octets::span::Span;
+use octets::{parts, search};
 
-// The place behind this word or mark.
-pub fn word_at(word: &[u8], text: &[u8], at: usize) -> Mark
+// The largest number.
+const LARGEST: u64 = 4_294_967_295;
+
+// The longest path, in bytes.
+const LONGEST: usize = 63;
+
+/// The place behind this word or mark.
+#[tactic(auto, unfolding(crate::specs::Tokens::word_at))]
+pub fn word_at(word: &[u8], text: &[u8], at: usize) -> Option<usize>
     ensures { result ≡ word_at word.now text.now at }
 {
     let place = gaps::token_place(text, at);
-    let there = octets::parts::piece(text, place, word.len());
-    if octets::search::same(there, word) {
-        return Mark::Behind(place + word.len());
+    if !search::same(parts::piece(text, place, word.len()), word) {
+        return None;
     }
-    Mark::Absent
+    Some(place + word.len())
 }
 
-// A number, at most 4,294,967,295.
-pub fn number_at(text: &[u8], at: usize) -> Number
+/// A number, at most 4,294,967,295, and the place behind it.
+pub fn number_at(text: &[u8], at: usize) -> Option<(u64, usize)>
     ensures { result ≡ number_at text.now at }
 {
     let place = gaps::token_place(text, at);
-    let next = runs::behind(Class::Digit, text, place);
-    let value = runs::decimal(octets::parts::piece(text, place, next - place));
-    if (next == place) | (4294967295 < value) {
-        return Number::Bad;
+    let length = runs::run(Class::Digit, text, place);
+    let value = runs::decimal(parts::piece(text, place, length));
+    if (length == 0) | (LARGEST < value) {
+        return None;
     }
-    Number::Is {
-        value: value,
-        next: next,
-    }
+    Some((value, place + length))
 }
 
-// A number with the unit that stands at place p, if one does.
-fn sized(value: u64, text: &[u8], p: usize) -> Number
+// A number with the unit that stands at place p, if one does, and the place behind both.
+#[tactic(auto, unfolding(crate::specs::Tokens::sized))]
+fn sized(value: u64, text: &[u8], p: usize) -> (u64, usize)
     requires { value ≤ 4294967295 }
     ensures { result ≡ sized value text.now p }
 {
-    let unit = octets::parts::piece(text, p, 2);
-    if octets::search::same(unit, b"KB") {
-        return Number::Is {
-            value: value * 1024,
-            next: p + 2,
-        };
+    let unit = parts::piece(text, p, 2);
+    if search::same(unit, b"KB") {
+        return (value * 1024, p + 2);
     }
-    if octets::search::same(unit, b"MB") {
-        return Number::Is {
-            value: value * 1048576,
-            next: p + 2,
-        };
+    if search::same(unit, b"MB") {
+        return (value * 1048576, p + 2);
     }
-    if octets::search::same(unit, b"GB") {
-        return Number::Is {
-            value: value * 1073741824,
-            next: p + 2,
-        };
+    if search::same(unit, b"GB") {
+        return (value * 1073741824, p + 2);
     }
-    Number::Is {
-        value: value,
-        next: p,
-    }
+    (value, p)
 }
 
-// A number, with a unit directly behind it or without.
-pub fn size_at(text: &[u8], at: usize) -> Number
+/// A number, with a unit directly behind it or without: the product, and the place behind.
+#[tactic(auto, unfolding(crate::specs::Tokens::size_at, crate::specs::Tokens::with_unit))]
+pub fn size_at(text: &[u8], at: usize) -> Option<(u64, usize)>
     ensures { result ≡ size_at text.now at }
 {
-    let Number::Is { value, next } = number_at(text, at) else {
-        return Number::Bad;
-    };
-    sized(value, text, next)
+    let (value, next) = number_at(text, at)?;
+    Some(sized(value, text, next))
 }
 
 // The n bytes from place p on, if they are a path.
-fn path_of(text: &[u8], p: usize, n: usize, next: usize) -> Path
+#[tactic(auto, unfolding(crate::specs::Tokens::path_of))]
+fn path_of(text: &[u8], p: usize, n: usize, next: usize) -> Option<(Span, usize)>
     ensures { result ≡ path_of text.now p n next }
 {
-    let first = runs::byte_at(text, p);
-    if (first == 47) & ((2 <= n) & (n <= 63)) {
-        return Path::Is {
-            start: p,
+    if runs::is_at(text, p, b'/') && (2..=LONGEST).contains(&n) {
+        let path = Span {
+            place: p,
             length: n,
-            next: next,
         };
+        return Some((path, next));
     }
-    Path::Bad
+    None
 }
 
 // A path in quote marks, whose first byte stands at place p.
-fn quoted_path(text: &[u8], p: usize) -> Path
+#[tactic(auto, unfolding(crate::specs::Tokens::quoted_path))]
+fn quoted_path(text: &[u8], p: usize) -> Option<(Span, usize)>
     ensures { result ≡ quoted_path text.now p }
 {
-    let end = runs::behind(Class::Quoted, text, p);
-    if runs::byte_at(text, end) == 34 {
-        return path_of(text, p, end - p, end + 1);
+    let length = runs::run(Class::Quoted, text, p);
+    if !runs::is_at(text, p + length, b'"') {
+        return None;
     }
-    Path::Bad
+    path_of(text, p, length, p + length + 1)
 }
 
 // A path without quote marks, whose first byte stands at place p.
-fn bare_path(text: &[u8], p: usize) -> Path
+#[tactic(auto, unfolding(crate::specs::Tokens::bare_path))]
+fn bare_path(text: &[u8], p: usize) -> Option<(Span, usize)>
     ensures { result ≡ bare_path text.now p }
 {
-    let end = runs::behind(Class::Bare, text, p);
-    path_of(text, p, end - p, end)
+    let length = runs::run(Class::Bare, text, p);
+    path_of(text, p, length, p + length)
 }
 
-// A path, in quote marks or not.
-pub fn path_at(text: &[u8], at: usize) -> Path
+/// A path, in quote marks or not, and the place behind it.
+#[tactic(auto, unfolding(crate::specs::Tokens::path_at))]
+pub fn path_at(text: &[u8], at: usize) -> Option<(Span, usize)>
     ensures { result ≡ path_at text.now at }
 {
     let place = gaps::token_place(text, at);
-    if runs::byte_at(text, place) == 34 {
+    if runs::is_at(text, place, b'"') {
         return quoted_path(text, place + 1);
     }
     bare_path(text, place)

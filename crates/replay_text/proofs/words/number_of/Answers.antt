@@ -8,8 +8,8 @@ returns-in_default c = number-none c.args.word.now (sym c.number_at.ensures ∙ 
 
 pub returns-then-token_place-next : goal.returns-then-token_place-next
 returns-then-token_place-next c = let place = c.token_place in
-    number-some c.args.word.now place.result _ _ _ place.ensures (sym c.number_at.ensures ∙ c.in-Is.is) c.if-token_place-next.true
+    number-some c.args.word.now place.result _ _ _ place.ensures (sym c.number_at.ensures ∙ c.in-Some.is) c.if-token_place-next.true
 
 pub returns : goal.returns
 returns c = let place = c.token_place in
-    number-some c.args.word.now place.result _ _ _ place.ensures (sym c.number_at.ensures ∙ c.in-Is.is) c.if-token_place-next.false
+    number-some c.args.word.now place.result _ _ _ place.ensures (sym c.number_at.ensures ∙ c.in-Some.is) c.if-token_place-next.false

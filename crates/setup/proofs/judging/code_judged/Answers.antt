@@ -11,8 +11,8 @@ returns-in_default c = rw (c.refused.ensures, code-malformed c.code_at.result (c
 
 pub returns-then-number-ne0 : goal.returns-then-number-ne0
 unfolding judged settled
-returns-then-number-ne0 c = rw (c.refused-then-number-ne0.ensures, sym c.code_at.ensures ∙ c.in-Code.is, ← c.piece-path.ensures, ← c.code_refusal-number.ensures, ne_eqb _ _ c.if-number-ne0.true)
+returns-then-number-ne0 c = rw (c.refused-then-number-ne0.ensures, sym c.code_at.ensures ∙ c.in-Code.is, ← c.of-path.ensures, ← c.code_refusal-number.ensures, ne_eqb _ _ c.if-number-ne0.true)
 
 pub returns : goal.returns
 unfolding judged settled
-returns c = rw (c.with_code-more.ensures, sym c.code_at.ensures ∙ c.in-Code.is, ← c.piece-path.ensures, ← c.code_refusal-number.ensures, eq-eqb _ _ c.if-number-ne0.false)
+returns c = rw (c.with_code-more.ensures, sym c.code_at.ensures ∙ c.in-Code.is, ← c.of-path.ensures, ← c.code_refusal-number.ensures, eq-eqb _ _ c.if-number-ne0.false)

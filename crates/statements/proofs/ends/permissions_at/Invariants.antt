@@ -4,6 +4,3 @@ use Rattle.statements.proofs.ends.permissions_at.Given as goal
 
 abbrev pub invariant-loop-count : goal.invariant-loop-count
 invariant-loop-count l = (permissions_at l.text l.at ≡ permissions_from (length l.text - l.count) l.text l.place l.count l.bits) × (l.count ≤ length l.text)
-
-abbrev pub decreases-loop-count : goal.decreases-loop-count
-decreases-loop-count l = length l.text - l.count

