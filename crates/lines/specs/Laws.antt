@@ -5,7 +5,8 @@ use Rattle.std.proofs.Math.Decide.{dec_le}
 use Rattle.octets.specs.Lists.{write_at}
 use Rattle.octets.specs.WriteLaws.{write_at-append, write_at-nil, write_at_out, length-write_at}
 use Rattle.lines.specs.Lines.{digits, fields, line}
-use Rattle.lines.specs.Wrote.{Wrote, most}
+use Rattle.lines.specs.Wrote.{Wrote, Put, most}
+use Rattle.lines.specs.declared.output.Output.{Output}
 
 -- a place that is not counted any further
 capped : (m x : ℕ) (b n : List ℕ) → length n < m → write_at (min x m) b n ≡ write_at x b n
@@ -44,6 +45,24 @@ nothing {at} {a} {o} {n} {r} f =
 -- the same text by another name
 pub called : {at : ℕ} {a b o n : List ℕ} {r : ℕ} → a ≡ b → Wrote at a o n r → Wrote at b o n r
 called e w = rw e at w
+
+-- ---- of an output
+
+-- one text behind another is both
+pub then_put : {a b : List ℕ} {o n m : Output} → Put a o n → Put b n m → Put (a ++ b) o m
+then_put f g = record { wrote = behind f.wrote g.wrote; same_row = rw g.same_row f.same_row }
+
+-- the same text by another name
+pub put_called : {a b : List ℕ} {o n : Output} → a ≡ b → Put a o n → Put b o n
+put_called e w = rw e at w
+
+-- nothing
+pub put_nothing : (o : Output) → Put [] o o
+unfolding most
+put_nothing o =
+    let counted : o.at ≤ 9223372036854775808 = o.counted in
+    let room : length o.row.now < 9223372036854775808 = o.room in
+    record { wrote = record { written = sym (write_at-nil o.at o.row.now); place = omega arith; room = room }; same_row = refl }
 
 -- ---- digits
 

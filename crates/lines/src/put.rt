@@ -1,75 +1,100 @@
 // Whole lines, and their fields.
-ghost use Rattle.lines.specs.Lines.{header_line, permission, fields, line, dseg, mseg, refusal_line, decimal};
-ghost use Rattle.lines.specs.Wrote.{Wrote};
+ghost use Rattle.std.specs.Prelude.{◌≡◌, ◌||◌, eqb};
 
-use super::numbers::{put, put_decimal};
+use super::output::Output;
 
-// "partitions 3 dsegs 1 msegs 1"
-pub fn put_header(out: &mut [u8], at: usize, partitions: usize, dsegs: usize, msegs: usize) -> usize
-    ensures { Wrote at (header_line partitions dsegs msegs) out.old out.new result }
-{
-    let a = put(out, at, b"partitions ");
-    let b = put_decimal(out, a, partitions as u64);
-    let c = put(out, b, b" dsegs ");
-    let d = put_decimal(out, c, dsegs as u64);
-    let e = put(out, d, b" msegs ");
-    let f = put_decimal(out, e, msegs as u64);
-    put(out, f, b"\n")
+// Permissions, as a set-up's rows have them; any other number is none.
+const READ_ONLY: u8 = 1;
+
+const READ_WRITE: u8 = 2;
+
+/// A segment, as its line shows it.
+#[derive(Clone, Copy, Debug)]
+pub enum Entry<'a> {
+    Dseg { path: &'a [u8] },
+    Mseg { size: u64 },
 }
 
-// "refused 413 line 3"
-pub fn put_refusal(out: &mut [u8], at: usize, number: u32, row: usize) -> usize
-    ensures { Wrote at (refusal_line number row) out.old out.new result }
+// Whether a segment has a line for a partition that is granted this.
+fn is_shown(granted: u8) -> bool
+    ensures { result ≡ eqb granted 1 || eqb granted 2 }
 {
-    let a = put(out, at, b"refused ");
-    let b = put_decimal(out, a, number as u64);
-    let c = put(out, b, b" line ");
-    let d = put_decimal(out, c, row as u64);
-    put(out, d, b"\n")
+    matches!(granted, READ_ONLY | READ_WRITE)
 }
 
-// " RO " or " RW "
-fn put_permission(out: &mut [u8], at: usize, granted: u8) -> usize
-    ensures { Wrote at (permission granted) out.old out.new result }
-{
-    if granted == 2 {
-        return put(out, at, b" RW ");
+impl<'a> Output<'a> {
+    ghost use Rattle.lines.specs.Lines.{header_line, permission, line, refusal_line};
+    ghost use Rattle.lines.specs.Entries.{letter_of, what_of};
+    ghost use Rattle.lines.specs.Wrote.{Put};
+
+    /// "partitions 3 dsegs 1 msegs 1"
+    pub fn put_header(&mut self, partitions: usize, dsegs: usize, msegs: usize)
+        ensures { Put (header_line partitions dsegs msegs) self.old self.new }
+    {
+        self.put(b"partitions ");
+        self.put_decimal(partitions as u64);
+        self.put(b" dsegs ");
+        self.put_decimal(dsegs as u64);
+        self.put(b" msegs ");
+        self.put_decimal(msegs as u64);
+        self.put(b"\n");
     }
-    put(out, at, b" RO ")
-}
 
-// "1 D 0 RW ", where `letter` is " D "
-fn put_fields(out: &mut [u8], at: usize, p: usize, letter: &[u8], i: usize, granted: u8) -> usize
-    ensures { Wrote at (fields p letter.now i granted) out.old out.new result }
-{
-    let a = put_decimal(out, at, p as u64);
-    let b = put(out, a, letter);
-    let c = put_decimal(out, b, i as u64);
-    put_permission(out, c, granted)
-}
-
-// The line of a dseg for partition p, which is granted RO (1) or RW (2); for any other permission nothing.
-pub fn put_dseg(out: &mut [u8], at: usize, p: usize, i: usize, granted: u8, path: &[u8]) -> usize
-    ensures { Wrote at (line p dseg i granted path.now) out.old out.new result }
-{
-    let shown = (granted == 1) | (granted == 2);
-    if !shown {
-        return put(out, at, b"");
+    /// "refused 413 line 3"
+    pub fn put_refusal(&mut self, number: u32, row: usize)
+        ensures { Put (refusal_line number row) self.old self.new }
+    {
+        self.put(b"refused ");
+        self.put_decimal(u64::from(number));
+        self.put(b" line ");
+        self.put_decimal(row as u64);
+        self.put(b"\n");
     }
-    let a = put_fields(out, at, p, b" D ", i, granted);
-    let b = put(out, a, path);
-    put(out, b, b"\n")
-}
 
-// The line of an mseg.
-pub fn put_mseg(out: &mut [u8], at: usize, p: usize, i: usize, granted: u8, size: u64) -> usize
-    ensures { Wrote at (line p mseg i granted (decimal size)) out.old out.new result }
-{
-    let shown = (granted == 1) | (granted == 2);
-    if !shown {
-        return put(out, at, b"");
+    // " RO " or " RW "
+    #[tactic(auto, unfolding(crate::specs::Lines::permission))]
+    fn put_permission(&mut self, granted: u8)
+        ensures { Put (permission granted) self.old self.new }
+    {
+        if granted == READ_WRITE {
+            self.put(b" RW ")
+        } else {
+            self.put(b" RO ")
+        }
     }
-    let a = put_fields(out, at, p, b" M ", i, granted);
-    let b = put_decimal(out, a, size);
-    put(out, b, b"\n")
+
+    // " D " or " M "
+    fn put_letter(&mut self, segment: Entry)
+        ensures { Put (letter_of segment.entry) self.old self.new }
+    {
+        match segment {
+            Entry::Dseg { .. } => self.put(b" D "),
+            Entry::Mseg { .. } => self.put(b" M "),
+        }
+    }
+
+    // A dseg's path, or an mseg's size in bytes.
+    fn put_what(&mut self, segment: Entry)
+        ensures { Put (what_of segment.entry) self.old self.new }
+    {
+        match segment {
+            Entry::Dseg { path } => self.put(path),
+            Entry::Mseg { size } => self.put_decimal(size),
+        }
+    }
+
+    /// The line of segment i for partition p, which is granted RO (1) or RW (2); for any other permission nothing.
+    pub fn put_segment(&mut self, p: usize, i: usize, granted: u8, segment: Entry)
+        ensures { Put (line p (letter_of segment.entry) i granted (what_of segment.entry)) self.old self.new }
+    {
+        if !is_shown(granted) {
+            return;
+        }
+        self.put_decimal(p as u64);
+        self.put_letter(segment);
+        self.put_decimal(i as u64);
+        self.put_permission(granted);
+        self.put_what(segment);
+        self.put(b"\n");
+    }
 }

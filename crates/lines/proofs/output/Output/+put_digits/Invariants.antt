@@ -1,5 +1,5 @@
 -- The measure is how many digits may come.
-use Rattle.lines.proofs.numbers.+put_digits.Given as goal
+use Rattle.lines.proofs.output.Output.+put_digits.Given as goal
 
 abbrev pub decreases-put_digits : goal.decreases-put_digits
 decreases-put_digits l = l.n
