@@ -1,3 +1,5 @@
--- The listing program's answer to every input, in document 01's words.
+-- The listing program's answer to every input.
 pub mod Listing
+pub mod Outcomes
+pub mod Kinds
 pub mod Laws

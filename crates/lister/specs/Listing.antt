@@ -1,5 +1,5 @@
--- Document 01, "The listing program".
-use Rattle.std.specs.Prelude.{Bool, true, false, cond, ◌&&◌, ◌||◌, List, [], ◌∷◌, ◌++◌, ℕ, zero, suc, ◌+◌, min, eqb, leb, ltb, length, take, drop, get_or}
+-- The listing program: its lines, and what it answers to each input.
+use Rattle.std.specs.Prelude.{Bool, true, false, Result, Ok, Err, cond, ◌&&◌, ◌||◌, List, [], ◌∷◌, ◌++◌, ℕ, zero, suc, ◌+◌, min, eqb, leb, ltb, length, take, drop, get_or}
 use Rattle.octets.specs.Search.{index_of}
 use Rattle.lines.specs.Lines.{decimal, header_line, line, dseg, mseg, refusal_line}
 use Rattle.octets.specs.Lists.{over}
@@ -11,8 +11,7 @@ use Rattle.setup.specs.Reading.{read}
 use Rattle.setup.specs.declared.Segment.{Segment}
 use Rattle.setup.specs.declared.Setup.{Setup}
 use Rattle.setup.specs.declared.Outcome.{Outcome}
-use Rattle.lister.specs.declared.Written.{Written}
-use Rattle.lister.specs.declared.Written.TheVariants.{Bytes, Short}
+use Rattle.lister.specs.declared.Short.{Short}
 
 -- ---- the lines of a set-up
 
@@ -74,14 +73,17 @@ listing input =
 
 -- what comes out: a text over the start of the lent output; or nothing, where that is too short
 pub record Listed : Type 0 where
-  pub written : Written
+  pub written : Result ℕ Short
   pub output : List ℕ
 
-abbrev pub result_of : Written → List ℕ → Listed
+abbrev pub result_of : Result ℕ Short → List ℕ → Listed
 result_of written output = record { written = written; output = output }
 
+abbrev pub short : Result ℕ Short
+short = Err (record {})
+
 unfoldable pub shown : List ℕ → List ℕ → Listed
-shown text output = cond (leb (length text) (length output)) (result_of (Bytes (length text)) (over text output)) (result_of Short output)
+shown text output = cond (leb (length text) (length output)) (result_of (Ok (length text)) (over text output)) (result_of short output)
 
 unfoldable pub listed : List ℕ → List ℕ → Listed
 listed input output = shown (listing input) output

@@ -1,49 +1,69 @@
-// The listing of a set-up text (document 01, "The listing program"), from input bytes to output bytes.
+// The listing of a set-up text, from input bytes to output bytes.
 #![tactic(auto)]
 
 use octets::parts;
+use setup::Setup;
 
 mod lines_of;
 mod row;
 mod show;
 
 ghost use Rattle.std.specs.Prelude.{◌≡◌};
-ghost use Rattle.lister.specs.Listing.{answer_to, result_of, shown, listed};
+ghost use Rattle.lister.specs.Listing.{result_of, listed};
+ghost use Rattle.lister.specs.Outcomes.{said, answer_behind};
 
-// How many bytes of output there are; or that the output is too short for them, and nothing was written.
-#[derive(Clone, Copy)]
-pub enum Written {
-    Bytes(usize),
-    Short,
+/// The output is too short for the listing, and nothing was written.
+#[derive(Clone, Copy, Debug, PartialEq, Eq)]
+pub struct Short;
+
+// A refusal, by its number and the line of the text that it is of.
+#[derive(Clone, Copy, Debug)]
+struct Refused {
+    number: u32,
+    line: usize,
 }
 
-// The listing of the text behind a first line of A and P.
-fn answer(output: &mut [u8], letters: &[u8], text: &[u8]) -> Written
-    ensures { result_of result output.new ≡ shown (answer_to letters.now text.now) output.old }
+// Another byte in the first line, or no line feed behind it.
+const BAD_LETTERS: Refused = Refused {
+    number: 401,
+    line: 0,
+};
+
+// What a first line and the text behind it describe.
+fn read(letters: &[u8], text: &[u8]) -> Result<Setup, Refused>
+    ensures { said text.now result ≡ answer_behind letters.now text.now }
 {
-    let count = parts::least(letters.len(), 9) as u32;
+    if !row::only_letters(letters) {
+        return Err(BAD_LETTERS);
+    }
+    let count = letters.len().min(9) as u32;
     let active = row::flags(letters);
     let number = setup::limits(count, active, text.len());
     if number != 0 {
-        return show::refusal(output, number, 0);
+        return Err(Refused { number, line: 0 });
     }
-    let none = parts::piece(text, 0, 0);
-    let outcome = setup::read(false, none, text, count, active);
-    show::outcome(output, text, outcome)
+    let outcome = setup::read(false, &[], text, count, active);
+    if outcome.number != 0 {
+        return Err(Refused {
+            number: outcome.number,
+            line: outcome.line,
+        });
+    }
+    Ok(outcome.setup)
 }
 
-// The listing of any input, written to the start of `output`; nothing is written where that is too short.
-pub fn listing(input: &[u8], output: &mut [u8]) -> Written
+/// How many bytes the listing of any input has, written to the start of `output`.
+///
+/// # Errors
+/// The output is too short for them: nothing was written.
+pub fn listing(input: &[u8], output: &mut [u8]) -> Result<usize, Short>
     ensures { result_of result output.new ≡ listed input.now output.old }
 {
-    let n = octets::search::find(input, 10);
+    let n = octets::search::find(input, b'\n');
     if n == input.len() {
-        return show::refusal(output, 401, 0);
+        return show::outcome(output, &[], &Err(BAD_LETTERS));
     }
     let letters = parts::piece(input, 0, n);
-    if !row::only_letters(letters) {
-        return show::refusal(output, 401, 0);
-    }
     let text = parts::piece(input, n + 1, input.len());
-    answer(output, letters, text)
+    show::outcome(output, text, &read(letters, text))
 }

@@ -1,45 +1,28 @@
 // The first line of the input: a letter for each partition.
 ghost use Rattle.std.specs.Prelude.{◌≡◌};
-ghost use Rattle.lister.specs.Listing.{only_letters, letter_a, flags};
+ghost use Rattle.std.specs.List.{list_all};
+ghost use Rattle.lister.specs.Listing.{letter_a, flags};
+ghost use Rattle.lister.specs.Laws.{is_letter};
 
 // Whether the row is made of A and P.
 pub fn only_letters(row: &[u8]) -> bool
-    ensures { result ≡ only_letters row.now }
+    ensures { result ≡ list_all is_letter row.now }
 {
-    let mut i = 0;
-    while i < row.len() {
-        let b = row[i];
-        let letter = (b == 65) | (b == 80);
-        if !letter {
-            return false;
-        }
-        i += 1;
-    }
-    true
+    row.iter().all(|b| matches!(b, b'A' | b'P'))
 }
 
 // Whether letter p of the row is an A.
+#[tactic(auto, unfolding(crate::specs::Listing::letter_a))]
 fn letter_a(row: &[u8], p: usize) -> bool
     ensures { result ≡ letter_a row.now p }
 {
-    if p < row.len() {
-        return row[p] == 65;
-    }
-    false
+    row.get(p) == Some(&b'A')
 }
 
 // Which of eight partitions are active.
+#[tactic(auto, unfolding(crate::specs::Listing::flags))]
 pub fn flags(row: &[u8]) -> [bool; 8]
     ensures { result ≡ flags row.now }
 {
-    [
-        letter_a(row, 0),
-        letter_a(row, 1),
-        letter_a(row, 2),
-        letter_a(row, 3),
-        letter_a(row, 4),
-        letter_a(row, 5),
-        letter_a(row, 6),
-        letter_a(row, 7),
-    ]
+    std::array::from_fn(|p| letter_a(row, p))
 }

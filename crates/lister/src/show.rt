@@ -1,46 +1,56 @@
 // A text shown: it is counted first, and written only where it fits.
-ghost use Rattle.std.specs.Prelude.{◌≡◌};
-ghost use Rattle.lines.specs.Lines.{refusal_line};
-ghost use Rattle.lister.specs.Listing.{result_of, shown, setup_lines, answer};
+ghost use Rattle.std.specs.Prelude.{◌≡◌, length, min};
+ghost use Rattle.octets.specs.Lists.{over};
+ghost use Rattle.lines.specs.Wrote.{Put, most};
+ghost use Rattle.lister.specs.Listing.{result_of, shown};
+ghost use Rattle.lister.specs.Outcomes.{said};
 
-use super::Written;
 use super::lines_of::put_setup;
-use lines::put::put_refusal;
-use setup::{Outcome, Setup};
+use super::{Refused, Short};
+use lines::Output;
+use setup::Setup;
 
-// The line of a refusal.
-pub fn refusal(output: &mut [u8], number: u32, row: usize) -> Written
-    ensures { result_of result output.new ≡ shown (refusal_line number row) output.old }
+// The lines of a set-up, or the line of a refusal.
+fn put_outcome(out: &mut Output, text: &[u8], outcome: &Result<Setup, Refused>)
+    ensures { Put (said text.now outcome.now) out.old out.new }
 {
-    let mut none = [0u8; 1];
-    let n = put_refusal(&mut none, 0, number, row);
-    if output.len() < n {
-        return Written::Short;
+    match outcome {
+        Ok(setup) => put_setup(out, text, setup),
+        Err(refused) => out.put_refusal(refused.number, refused.line),
     }
-    put_refusal(output, 0, number, row);
-    Written::Bytes(n)
 }
 
-// The lines of a set-up.
-fn setup_lines(output: &mut [u8], text: &[u8], setup: Setup) -> Written
-    ensures { result_of result output.new ≡ shown (setup_lines text.now setup) output.old }
+// How many bytes these are.
+#[tactic(auto, using(crate::specs::Laws::counted))]
+fn count(text: &[u8], outcome: &Result<Setup, Refused>) -> usize
+    ensures { result ≡ min (length (said text.now outcome.now)) most }
 {
-    let mut none = [0u8; 1];
-    let n = put_setup(&mut none, 0, text, setup);
-    if output.len() < n {
-        return Written::Short;
-    }
-    put_setup(output, 0, text, setup);
-    Written::Bytes(n)
+    let mut none = [];
+    let mut out = Output::new(&mut none, 0);
+    put_outcome(&mut out, text, outcome);
+    out.at
 }
 
-// What a reading gave.
-pub fn outcome(output: &mut [u8], text: &[u8], outcome: Outcome) -> Written
-    ensures { result_of result output.new ≡ shown (answer text.now outcome) output.old }
+// They, over the start of the output.
+#[tactic(auto, using(crate::specs::Laws::laid))]
+fn write(output: &mut [u8], text: &[u8], outcome: &Result<Setup, Refused>)
+    ensures { output.new ≡ over (said text.now outcome.now) output.old }
 {
-    if outcome.number != 0 {
-        return refusal(output, outcome.number, outcome.line);
+    put_outcome(&mut Output::new(output, 0), text, outcome);
+}
+
+// They, over the start of the output; nothing is written where that is too short.
+pub fn outcome(
+    output: &mut [u8],
+    text: &[u8],
+    outcome: &Result<Setup, Refused>,
+) -> Result<usize, Short>
+    ensures { result_of result output.new ≡ shown (said text.now outcome.now) output.old }
+{
+    let n = count(text, outcome);
+    if output.len() < n {
+        return Err(Short);
     }
-    let setup = outcome.setup;
-    setup_lines(output, text, setup)
+    write(output, text, outcome);
+    Ok(n)
 }

@@ -7,14 +7,9 @@ ghost use Rattle.std.specs.Prelude.{◌≡◌};
 ghost use Rattle.lister.specs.Listing.{listed};
 ghost use Rattle.lister_c.specs.Counted.{counted};
 
-use lister::Written;
-
 #[unsafe(no_mangle)]
 pub extern "C" fn virpulens_listing(input: &[u8], output: &mut [u8]) -> usize
     ensures { (result ≡ counted (listed input.now output.old).written) × (output.new ≡ (listed input.now output.old).output) }
 {
-    match lister::listing(input, output) {
-        Written::Bytes(n) => n,
-        Written::Short => usize::MAX,
-    }
+    lister::listing(input, output).unwrap_or(usize::MAX)
 }

@@ -1,6 +1,6 @@
 -- No listing is longer than 22,998 bytes: a first line, and for each of eight partitions sixteen lines of a dseg and sixteen of an mseg. So
 -- an output of that length is always long enough.
-use Rattle.std.specs.Prelude.{false, ◌&&◌, ◌||◌, List, [], ◌≡◌, ℕ, zero, suc, ◌+◌, ◌*◌, ◌/◌, ◌≤◌, min, eqb, ltb, length, take, drop, get_or}
+use Rattle.std.specs.Prelude.{Ok, false, ◌&&◌, ◌||◌, List, [], ◌≡◌, ℕ, zero, suc, ◌+◌, ◌*◌, ◌/◌, ◌≤◌, min, eqb, ltb, length, take, drop, get_or}
 use Rattle.std.proofs.Common.{arith, le-leb, length-append}
 use Rattle.octets.specs.Search.{index_of}
 use Rattle.text.specs.Steps.{split}
@@ -15,7 +15,6 @@ use Rattle.setup.specs.Setup.{is_active}
 use Rattle.setup.specs.Values.{blank}
 use Rattle.setup.specs.Rules.{limits}
 use Rattle.setup.specs.Reading.{read}
-use Rattle.lister.specs.declared.Written.TheVariants.{Bytes}
 use Rattle.lister.specs.Listing.{dseg_lines, mseg_lines, lines_of, partition_lines, setup_lines, answer, only_letters, flags, answer_to, listing, result_of, shown, listed}
 use Rattle.lister_laws.specs.Paths.{Short, short-at, read_short_lem}
 
@@ -137,7 +136,7 @@ listing-short input =
 
 -- an output of 22,998 bytes is never too short
 pub always-fits : (input output : List ℕ) → 22998 ≤ length output
-    → listed input output ≡ result_of (Bytes (length (listing input))) (over (listing input) output)
+    → listed input output ≡ result_of (Ok (length (listing input))) (over (listing input) output)
 unfolding listed shown
 always-fits input output h =
     let short : length (listing input) ≤ 22998 = listing-short input in

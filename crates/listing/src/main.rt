@@ -1,5 +1,5 @@
-// Reads a line of A and P and a set-up text from standard input, and prints the listing or the refusal (document 01,
-// "The listing program"). All the work is the library's.
+// Reads a line of A and P and a set-up text from standard input, and prints the listing or the refusal. All the work is
+// the library's.
 //
 // Up to 65,536 bytes are read. An input that fills these is refused whatever follows: where its first line, as far as
 // it was read, is not one to eight letters of A and P with an A among them and a line feed, with 401; else the text
@@ -8,7 +8,6 @@
 // The output is always long enough: no listing is longer than 22,998 bytes (`always-fits` of the crate `lister_laws`).
 #![tactic(auto)]
 
-use lister::Written;
 use octets::parts;
 use std::io;
 use std::io::{Read, Write};
@@ -21,9 +20,8 @@ fn main(rt: HostRuntime) -> io::Result<()> {
 
 fn print(rt: &HostRuntime, input: &[u8]) -> io::Result<()> {
     let mut output = [0u8; 65536];
-    let written = lister::listing(input, &mut output);
-    let Written::Bytes(n) = written else {
-        return Ok(());
-    };
-    io::writer(rt).write_all(parts::piece(&output, 0, n))
+    match lister::listing(input, &mut output) {
+        Ok(n) => io::writer(rt).write_all(parts::piece(&output, 0, n)),
+        Err(lister::Short) => Ok(()),
+    }
 }

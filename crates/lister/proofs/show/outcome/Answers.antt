@@ -1,9 +1,12 @@
--- `lister::show::outcome` meets its contract: a refusal's line, or the set-up's lines. Assumes nothing.
-use Rattle.lister.specs.Laws.{shown_as, answer-refused, answer-accepted}
+-- `lister::show::outcome` meets its contract: what was counted fits, or nothing is written. Assumes nothing.
+use Rattle.std.proofs.Common.{arith}
+use Rattle.lines.specs.Wrote.{most}
+use Rattle.lister.specs.Laws.{fits, short}
 use Rattle.lister.proofs.show.outcome.Goals as goal
 
-pub returns-then-outcome-ne0 : goal.returns-then-outcome-ne0
-returns-then-outcome-ne0 c = shown_as c.args.output.now (answer-refused c.args.text.now c.args.outcome c.if-outcome-ne0.true) c.refusal.ensures
+pub returns-then-output-n : goal.returns-then-output-n
+returns-then-output-n c = short _ _ c.count-n.ensures c.if-output-n.true
 
 pub returns : goal.returns
-returns c = shown_as c.args.output.now (answer-accepted c.args.text.now c.args.outcome c.if-outcome-ne0.false) c.setup_lines.ensures
+unfolding most
+returns c = fits _ _ c.count-n.ensures c.write.ensures (omega arith) c.if-output-n.false
