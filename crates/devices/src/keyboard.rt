@@ -4,16 +4,17 @@ ghost use Rattle.devices.specs.Queue.{no_keys, queue_add, took, queue_take};
 
 use octets::parts;
 
-// The keys that wait, the oldest first, and how many they are. Bytes behind them are 0, so that equal queues are equal
-// structs.
-#[derive(Clone, Copy)]
+/// The keys that wait, the oldest first, and how many they are. Bytes behind them are 0, so that equal queues are equal
+/// structs.
+// Stays: 64 places and a count, since the layer has no heap (docs/DECISIONS.md, "Forms that stay").
+#[derive(Clone, Copy, Debug, PartialEq, Eq)]
 pub struct Keyboard {
     pub keys: [u8; 64],
     pub held: usize,
 }
 
-// What taking keys out gives: how many were taken, and the queue without them.
-#[derive(Clone, Copy)]
+/// What taking keys out gives: how many were taken, and the queue without them.
+#[derive(Clone, Copy, Debug, PartialEq, Eq)]
 pub struct Taken {
     pub count: usize,
     pub keyboard: Keyboard,
@@ -30,6 +31,7 @@ fn store_key(queue: &mut Keyboard, key: u8)
 }
 
 // The same on a queue by value: it lends a copy of its own.
+// Stays: the queue by value, then one function over `&mut` (docs/DECISIONS.md, "Forms that stay").
 fn stored(queue: Keyboard, key: u8) -> Keyboard
     requires { queue.held < 64 }
     ensures { result ≡ queue_add key queue }
@@ -40,44 +42,44 @@ fn stored(queue: Keyboard, key: u8) -> Keyboard
 }
 
 impl Keyboard {
-    // A queue with no key.
+    /// How many keys the queue has room for.
+    pub const ROOM: usize = 64;
+
+    /// A queue with no key.
+    #[tactic(auto, unfolding(crate::specs::Queue::no_keys))]
     pub fn new() -> Keyboard
         ensures { result ≡ no_keys }
     {
-        let keys = [0; 64];
         Keyboard {
-            keys: keys,
+            keys: [0; Keyboard::ROOM],
             held: 0,
         }
     }
 
-    // Takes a key in at the back, or drops it when 64 are held.
+    /// Takes a key in at the back, or drops it when 64 are held.
+    #[tactic(auto, unfolding(crate::specs::Queue::queue_add))]
     pub fn add(self, key: u8) -> Keyboard
         ensures { result ≡ queue_add key self }
     {
-        if 64 <= self.held {
+        if Keyboard::ROOM <= self.held {
             return self;
         }
         stored(self, key)
     }
 
-    // Takes the oldest keys out into the buffer: as many as are asked for, are held and fit.
+    /// Takes the oldest keys out into the buffer: as many as are asked for, are held and fit.
     pub fn take(self, request: usize, buffer: &mut [u8]) -> Taken
         ensures { took result buffer.new ≡ queue_take request self buffer.old }
     {
-        let held = parts::least(self.held, 64);
-        let count = parts::least(parts::least(request, buffer.len()), held);
-        let keys = self.keys;
-        parts::lay(parts::piece(&keys, 0, count), buffer, 0);
-        let mut rest = [0; 64];
-        parts::lay(parts::piece(&keys, count, 64), &mut rest, 0);
+        let held = self.held.min(Keyboard::ROOM);
+        let count = request.min(buffer.len()).min(held);
+        buffer[..count].copy_from_slice(&self.keys[..count]);
+        let mut keys = [0; Keyboard::ROOM];
+        keys[..Keyboard::ROOM - count].copy_from_slice(&self.keys[count..]);
         let keyboard = Keyboard {
-            keys: rest,
+            keys,
             held: held - count,
         };
-        Taken {
-            count: count,
-            keyboard: keyboard,
-        }
+        Taken { count, keyboard }
     }
 }

@@ -1,5 +1,5 @@
 -- `devices::screen::scroll` meets its contract: with the last row blanked, the raised rows are the scrolled ones. Assumes nothing.
-use Rattle.std.proofs.Common.{List, [], ◌++◌, ◌≡◌, ◌∙◌, ℕ, ◌-◌, ◌≤◌, arith, length, take, drop, length-append, length-drop, drop_of_length-le, take_at}
+use Rattle.std.proofs.Common.{List, [], ◌++◌, ◌≡◌, ◌∙◌, ℕ, ◌-◌, ◌≤◌, arith, length, take, drop, length-append, length-drop, drop_of_length-le, take_all, take_at}
 use borrow.Rule.Slice.PartMut.{mid_of, put_mid, mid_len}
 use Rattle.devices.specs.Screen.{blanks, scrolled}
 use Rattle.devices.proofs.screen.scroll.Goals as goal
@@ -19,7 +19,6 @@ scroll_of l up last e p q =
     rw (whole, front, row, none)
 
 pub returns : goal.returns
-returns c = let raise = c.raise in
-    let blank = c.blank in
-    let cells = c.args.cells.now in
-    scroll_of cells raise.new.cells blank.new.cells c.requires raise.ensures blank.ensures
+returns c = let cells = c.args.cells.now in
+    let size : length (drop 80 cells) ≤ 1920 = rw length-drop (omega arith) in
+    scroll_of cells c.copy_within.new.self c.blank.new.cells c.requires (c.copy_within.ensures.after ∙ rw (c.requires, take_all 1920 (drop 80 cells) size)) c.blank.ensures

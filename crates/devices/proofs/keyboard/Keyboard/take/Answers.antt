@@ -1,40 +1,35 @@
 -- `devices::keyboard::Keyboard::take` meets its contract: what is left, laid over zeros, is what is left with zeros behind. Assumes nothing.
-use Rattle.std.proofs.Common.{List, ◌++◌, ◌≡◌, ℕ, ◌-◌, ◌≤◌, min, arith, length, drop, replicate, length-drop, take_all, take-take, rules}
-use Rattle.std.proofs.Math.ListN.{length-replicate}
-use Rattle.octets.specs.Lists.{part, write_at}
-use Rattle.octets.specs.PartLaws.{part_def}
-use Rattle.octets.specs.WriteLaws.{over-split, write_at-zero}
+use Rattle.std.proofs.Common.{List, ◌++◌, ◌≡◌, ℕ, ◌-◌, ◌≤◌, min, arith, length, take, drop, replicate, length-drop, length-take-le, take_all, take-take, rules}
+use Rattle.octets.specs.Lists.{over}
+use Rattle.octets.specs.WriteLaws.{over-split}
 use Rattle.devices.specs.Queue.{held, queue, takes, queue_drop, took, take_out, queue_take}
 use Rattle.devices.specs.QueueLaws.{drop-zeros}
 use Rattle.devices.specs.declared.keyboard.Keyboard.{Keyboard}
 use Rattle.devices.proofs.keyboard.Keyboard.take.Goals as goal
 
--- what is left, laid over zeros
-cleared : (n : ℕ) (keys : List ℕ) → length keys ≡ 64 → n ≤ 64 → write_at 0 (part n 64 keys) (replicate 64 0) ≡ drop n keys ++ replicate n 0
-cleared n keys e h =
-    let short : length (drop n keys) ≤ 64 = rw length-drop (omega arith) in
-    let left : 64 - (length keys - n) ≡ n = omega arith in
-    rw (write_at-zero, over-split, part_def, length-replicate {A = ℕ} 64 0, take_all 64 (drop n keys) short, take_all 64 (drop n keys) short, length-drop, drop-zeros, left)
+-- the first n of a row, laid over another that has room for them
+over-first : (n : ℕ) (keys buffer : List ℕ) → n ≤ length keys → n ≤ length buffer → over (take n keys) buffer ≡ take n keys ++ drop n buffer
+over-first n keys buffer h k =
+    let size : length (take n keys) ≡ n = length-take-le n keys h in
+    let room : length (take n keys) ≤ length buffer = rw size k in
+    rw (over-split, take_all (length buffer) (take n keys) room, size)
 
 -- what the code makes of its parts
-out : (request : ℕ) (k : Keyboard) (buffer keys after : List ℕ) (h n : ℕ) → length k.keys ≡ 64 → h ≡ min k.held 64 → n ≡ min (min request (length buffer)) h
-    → keys ≡ write_at 0 (part n 64 k.keys) (replicate 64 0) → after ≡ write_at 0 (part 0 n k.keys) buffer
-    → took (record { count = n; keyboard = record { keys = keys; held = h - n } }) after ≡ queue_take request k buffer
-unfolding queue_take take_out queue_drop takes held queue part
-out request k buffer keys after h n e p q r s =
-    let below : n ≤ 64 = omega arith in
-    let fewer : min (min request (length buffer)) (min k.held 64) ≤ min k.held 64 = omega arith in
-    rw (r, s, cleared n k.keys e below, write_at-zero, q, p, take-take (min (min request (length buffer)) (min k.held 64)) (min k.held 64) k.keys fewer)
+out : (request : ℕ) (k : Keyboard) (buffer front rest : List ℕ) (h n : ℕ) → length k.keys ≡ 64 → h ≡ min k.held 64 → n ≡ min (min request (length buffer)) h
+    → front ≡ take n k.keys → rest ≡ take (length k.keys - n) (drop n k.keys)
+    → took (record { count = n; keyboard = record { keys = rest ++ drop (64 - n) (replicate 64 0); held = h - n } }) (front ++ drop n buffer) ≡ queue_take request k buffer
+unfolding queue_take take_out queue_drop takes held queue
+out request k buffer front rest h n e p q r s =
+    let m : ℕ = min (min request (length buffer)) (min k.held 64) in
+    let left : 64 - (64 - n) ≡ n = omega arith in
+    let fewer : m ≤ min k.held 64 = omega arith in
+    let there : m ≤ length k.keys = omega arith in
+    let room : m ≤ length buffer = omega arith in
+    let size : length (drop n k.keys) ≤ length k.keys - n = rw length-drop (omega arith) in
+    rw (drop-zeros, left, r, s, take_all (length k.keys - n) (drop n k.keys) size, q, p, take-take m (min k.held 64) k.keys fewer, over-first m k.keys buffer there room)
 
 pub returns : goal.returns
 returns c = let args = c.args in
     let size : length args.self.keys ≡ 64 = search rules in
-    let held = c.least-held in
-    let count = c.least-count in
-    let taken = c.lay in
-    let rest = c.lay-2 in
-    out args.request args.self args.buffer.now rest.new.to taken.new.to held.result count.result size
-    held.ensures
-    (rw c.least.ensures at count.ensures)
-    (rw c.piece-2.ensures at rest.ensures)
-    (rw c.piece.ensures at taken.ensures)
+    out args.request args.self args.buffer.now c.copy_from_slice.new.self c.copy_from_slice-2.new.self c.min-held.result c.min-count.result size
+    c.min-held.ensures (rw c.min.ensures at c.min-count.ensures) c.copy_from_slice.ensures.after c.copy_from_slice-2.ensures.after
