@@ -1,4 +1,5 @@
 -- What a terminal is.
 pub mod Empty
+pub mod Devices
 pub mod Parts
 pub mod PartsLaws
