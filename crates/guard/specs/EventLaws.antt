@@ -14,3 +14,11 @@ pub seek_passive : (n : ℕ) (plan : Plan) (p : ℕ) → 0 < n → is_active pla
 unfolding seek
 seek_passive zero plan p h e = absurd (not-suc-le-zero h)
 seek_passive (suc n) plan p h e = let k : suc n - 1 ≡ n = omega arith in rw (k, e)
+
+-- where none is looked at, it stays where it is
+pub seek-none : (n : ℕ) (plan : Plan) (p : ℕ) → n ≡ 0 → seek n plan p ≡ p
+unfolding seek
+seek-none n plan p e = rw e
+
+-- what a loop over the search goes by
+pub ruleset turns = (seek-active, seek_passive, seek-none)

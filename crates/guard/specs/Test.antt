@@ -1,6 +1,7 @@
 -- Document 01, "Calls", BAD_STATE: "a place or count, kept in the state .., that leads outside its area; docs/ gives the test". This is
 -- the test, as docs/BAD_STATE.md has it. Unused seats and segments are empty, and pass it.
-use Rattle.std.specs.Prelude.{Bool, true, ◌&&◌, List, [], ◌∷◌, ℕ, ◌+◌, ◌*◌, leb, ltb}
+use Rattle.std.specs.Prelude.{Bool, ◌&&◌, List, ℕ, ◌+◌, ◌*◌, leb, ltb}
+use Rattle.std.specs.List.{list_all}
 use Rattle.octets.specs.declared.span.Span.{Span}
 use Rattle.state.specs.declared.Kept.{Kept}
 use Rattle.state.specs.declared.Segment.{Segment}
@@ -12,8 +13,7 @@ use Rattle.state.specs.Parts.{is_active}
 
 -- all of a list's elements pass
 unfoldable pub all_of : {A : Type 0} → (A → Bool) → List A → Bool
-all_of f [] = true
-all_of f (x ∷ l) = f x && all_of f l
+all_of f l = list_all f l
 
 -- a place with its length lies inside an area of so many bytes
 unfoldable pub inside : Span → ℕ → Bool

@@ -4,119 +4,90 @@
 ghost use Rattle.std.specs.Prelude.{◌≡◌};
 ghost use Rattle.guard.specs.Test.{all_of, inside, good_segment, good_seat, good_partition, good_counts, good_plan, good};
 
-use setup::Span;
-use state::{Kept, Partition, Plan, Seat, Segment, State};
+use devices::keyboard::Keyboard;
+use devices::screen::CELLS;
+use octets::span::Span;
+use state::{Kept, PARTITIONS, Partition, Plan, Seat, Segment, State};
+
+// How many dsegs, and how many msegs, there can be.
+const OF_A_KIND: usize = 16;
 
 // A place with its length lies inside an area of so many bytes.
+#[tactic(auto, unfolding(crate::specs::Test::inside))]
 fn inside(span: Span, area: usize) -> bool
     ensures { result ≡ inside span area }
 {
-    if span.place <= area {
-        return span.length <= area - span.place;
-    }
-    false
+    span.place <= area && span.length <= area - span.place
 }
 
-fn good_segment(kept: Kept, segment: Segment) -> bool
-    ensures { result ≡ good_segment kept segment }
+#[tactic(auto, unfolding(crate::specs::Test::good_segment))]
+fn good_segment(kept: &Kept, segment: &Segment) -> bool
+    ensures { result ≡ good_segment kept.now segment.now }
 {
-    let memory = inside(segment.memory, kept.arena);
-    let file = inside(segment.file, kept.store);
-    let path = inside(segment.path, kept.store);
-    memory & (file & path)
+    inside(segment.memory, kept.arena)
+        && inside(segment.file, kept.store)
+        && inside(segment.path, kept.store)
 }
 
-fn good_seat(kept: Kept, seat: Seat) -> bool
-    ensures { result ≡ good_seat kept seat }
+#[tactic(auto, unfolding(crate::specs::Test::good_seat))]
+fn good_seat(kept: &Kept, seat: &Seat) -> bool
+    ensures { result ≡ good_seat kept.now seat.now }
 {
-    let table = inside(seat.table, kept.tables);
-    let file = inside(seat.file, kept.store);
-    table & file
+    inside(seat.table, kept.tables) && inside(seat.file, kept.store)
 }
 
 // The cursor is a place of a screen, and the queue holds at most 64.
-fn good_partition(part: Partition) -> bool
-    ensures { result ≡ good_partition part }
+#[tactic(auto, unfolding(crate::specs::Test::good_partition))]
+fn good_partition(part: &Partition) -> bool
+    ensures { result ≡ good_partition part.now }
 {
-    let keyboard = part.keyboard;
-    (part.cursor < 2000) & (keyboard.held <= 64)
+    part.cursor < CELLS && part.keyboard.held <= Keyboard::ROOM
 }
 
-fn good_segments(kept: Kept, segments: [Segment; 32]) -> bool
-    ensures { result ≡ all_of (good_segment kept) segments }
+#[tactic(auto, unfolding(crate::specs::Test::all_of))]
+fn good_segments(kept: &Kept, segments: &[Segment]) -> bool
+    ensures { result ≡ all_of (good_segment kept.now) segments.now }
 {
-    let mut all = true;
-    let mut i = 0;
-    while i < 32 {
-        let segment = segments[i];
-        let one = good_segment(kept, segment);
-        all = all & one;
-        i += 1;
-    }
-    all
+    segments.iter().all(|segment| good_segment(kept, segment))
 }
 
-fn good_seats(kept: Kept, seats: [Seat; 8]) -> bool
-    ensures { result ≡ all_of (good_seat kept) seats }
+#[tactic(auto, unfolding(crate::specs::Test::all_of))]
+fn good_seats(kept: &Kept, seats: &[Seat]) -> bool
+    ensures { result ≡ all_of (good_seat kept.now) seats.now }
 {
-    let mut all = true;
-    let mut i = 0;
-    while i < 8 {
-        let seat = seats[i];
-        let one = good_seat(kept, seat);
-        all = all & one;
-        i += 1;
-    }
-    all
+    seats.iter().all(|seat| good_seat(kept, seat))
 }
 
-fn good_partitions(partitions: [Partition; 8]) -> bool
-    ensures { result ≡ all_of good_partition partitions }
+#[tactic(auto, unfolding(crate::specs::Test::all_of))]
+fn good_partitions(partitions: &[Partition]) -> bool
+    ensures { result ≡ all_of good_partition partitions.now }
 {
-    let mut all = true;
-    let mut i = 0;
-    while i < 8 {
-        let part = partitions[i];
-        let one = good_partition(part);
-        all = all & one;
-        i += 1;
-    }
-    all
+    partitions.iter().all(|part| good_partition(part))
 }
 
 // There are 1 to 8 partitions, at most 16 dsegs and at most 16 msegs.
-fn good_counts(plan: Plan) -> bool
-    ensures { result ≡ good_counts plan }
+#[tactic(auto, unfolding(crate::specs::Test::good_counts))]
+fn good_counts(plan: &Plan) -> bool
+    ensures { result ≡ good_counts plan.now }
 {
-    let partitions = (1 <= plan.count) & (plan.count <= 8);
-    let segments = (plan.dsegs <= 16) & (plan.msegs <= 16);
-    partitions & segments
+    (1..=PARTITIONS).contains(&plan.count) && plan.dsegs <= OF_A_KIND && plan.msegs <= OF_A_KIND
 }
 
 // The counts, and all places that start fixed, the screens' too.
-fn good_plan(plan: Plan) -> bool
-    ensures { result ≡ good_plan plan }
+#[tactic(auto, unfolding(crate::specs::Test::good_plan))]
+fn good_plan(plan: &Plan) -> bool
+    ensures { result ≡ good_plan plan.now }
 {
-    let counts = good_counts(plan);
-    if !counts {
-        return false;
-    }
-    let kept = plan.kept;
-    let seats = plan.seats;
-    let segments = plan.segments;
-    let screens = 2000 * plan.count;
-    let seated = good_seats(kept, seats);
-    let placed = good_segments(kept, segments);
-    (screens <= kept.screens) & (seated & placed)
+    good_counts(plan)
+        && CELLS * plan.count <= plan.kept.screens
+        && good_seats(&plan.kept, &plan.seats)
+        && good_segments(&plan.kept, &plan.segments)
 }
 
-// Nothing in the plan or the state leads outside its area, and the focus is on an active partition.
+/// Nothing in the plan or the state leads outside its area, and the focus is on an active partition.
+#[tactic(auto, unfolding(crate::specs::Test::good))]
 pub fn good(plan: Plan, state: State) -> bool
     ensures { result ≡ good plan state }
 {
-    let places = good_plan(plan);
-    let focus = plan.is_active(state.focus);
-    let partitions = state.partitions;
-    let moving = good_partitions(partitions);
-    places & (focus & moving)
+    good_plan(&plan) && plan.is_active(state.focus) && good_partitions(&state.partitions)
 }

@@ -51,12 +51,13 @@ impl Terminal {
     }
 
     // The common checks of every call: 216, 212, 213 or 0. `wrong`: what is lent is not as at start.
+    #[tactic(auto, unfolding(crate::specs::Terminal::guard_of))]
     fn guard(self, wrong: bool, partition: u32) -> u32
         ensures { result ≡ guard_of self wrong partition }
     {
         let plan = self.plan;
         let state = self.state;
-        guard::guard(plan, state, wrong, partition)
+        checks::number_behind(0, guard::guard(plan, state, wrong, partition))
     }
 
     // The calling partition.
