@@ -1,71 +1,44 @@
 // Numbers of two and of four bytes, the lowest byte first.
-ghost use Rattle.std.specs.Prelude.{◌≡◌, get_or, set};
+ghost use Rattle.std.specs.Prelude.{◌≡◌, get_or};
 ghost use Rattle.octets.specs.Lists.{part, write_at};
 ghost use Rattle.octets.specs.Numbers.{little, spelled};
+
+use super::parts;
 
 // The byte at place `at`; behind the end 0.
 fn byte(s: &[u8], at: usize) -> u8
     ensures { result ≡ get_or s.now at 0 }
 {
-    if at < s.len() {
-        return s[at];
-    }
-    0
+    s.get(at).copied().unwrap_or(0)
 }
 
-fn wide(b: u8) -> u32
-    ensures { result ≡ b }
-{
-    b as u32
-}
-
-// The number that the two bytes from place `at` on spell.
+/// The number that the two bytes from place `at` on spell, the lowest byte first; a byte behind the end counts as 0.
 pub fn read16(s: &[u8], at: usize) -> u32
     ensures { result ≡ little (part at 2 s.now) }
 {
-    if s.len() <= at {
-        return 0;
-    }
-    wide(byte(s, at)) + 256 * wide(byte(s, at + 1))
+    let bytes = parts::piece(s, at, 2);
+    u32::from(u16::from_le_bytes([byte(bytes, 0), byte(bytes, 1)]))
 }
 
-// The number that the four bytes from place `at` on spell.
+/// The number that the four bytes from place `at` on spell, the lowest byte first; a byte behind the end counts as 0.
 pub fn read32(s: &[u8], at: usize) -> u32
     ensures { result ≡ little (part at 4 s.now) }
 {
-    if s.len() <= at {
-        return 0;
-    }
-    read16(s, at) + 65536 * read16(s, at + 2)
+    let rest = parts::piece(s, at, 4);
+    let bytes = [byte(rest, 0), byte(rest, 1), byte(rest, 2), byte(rest, 3)];
+    u32::from_le_bytes(bytes)
 }
 
-// Stores the lowest byte of v at place `at`; behind the end nothing.
-fn put(s: &mut [u8], at: usize, v: u32)
-    ensures { s.new ≡ write_at at (spelled 1 v) s.old }
+/// Spells the lower half of `number` in the two bytes from place `at` on, the lowest byte first, as far as the row goes.
+pub fn write16(s: &mut [u8], at: usize, number: u32)
+    ensures { s.new ≡ write_at at (spelled 2 number) s.old }
 {
-    if at < s.len() {
-        s[at] = (v % 256) as u8;
-    }
+    parts::lay(&number.to_le_bytes()[..2], s, at);
 }
 
-// Spells v in the two bytes from place `at` on.
-pub fn write16(s: &mut [u8], at: usize, v: u32)
-    ensures { s.new ≡ write_at at (spelled 2 v) s.old }
+/// Spells `number` in the four bytes from place `at` on, the lowest byte first, as far as the row goes.
+pub fn write32(s: &mut [u8], at: usize, number: u32)
+    ensures { s.new ≡ write_at at (spelled 4 number) s.old }
 {
-    if s.len() <= at {
-        return;
-    }
-    put(s, at, v);
-    put(s, at + 1, v / 256);
-}
-
-// Spells v in the four bytes from place `at` on.
-pub fn write32(s: &mut [u8], at: usize, v: u32)
-    ensures { s.new ≡ write_at at (spelled 4 v) s.old }
-{
-    if s.len() <= at {
-        return;
-    }
-    write16(s, at, v);
-    write16(s, at + 2, v / 65536);
+    parts::lay(&number.to_le_bytes(), s, at);
 }

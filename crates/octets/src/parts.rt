@@ -2,65 +2,52 @@
 ghost use Rattle.std.specs.Prelude.{◌≡◌, ◌+◌, min, replicate};
 ghost use Rattle.octets.specs.Lists.{part, write_at, on_part};
 
-// The smaller of two numbers.
+/// The smaller of two numbers.
 pub fn least(a: usize, b: usize) -> usize
     ensures { result ≡ min a b }
 {
-    if a < b {
-        return a;
-    }
-    b
+    a.min(b)
 }
 
-// The sum of two numbers, or `limit` where that is less.
+/// The sum of two numbers, or `limit` where that is less.
 pub fn sum(a: usize, b: usize, limit: usize) -> usize
     ensures { result ≡ min (a + b) limit }
 {
-    if limit <= a {
-        return limit;
-    }
-    a + least(b, limit - a)
+    a.saturating_add(b).min(limit)
 }
 
-// The n bytes from place `at` on, fewer where the row ends first.
+/// The n bytes from place `at` on, fewer where the row ends first.
 pub fn piece(s: &[u8], at: usize, n: usize) -> &[u8]
     ensures { result.now ≡ part at n s.now }
 {
-    let start = least(at, s.len());
+    let start = at.min(s.len());
     let end = sum(start, n, s.len());
     &s[start..end]
 }
 
-// Lays `from` over `to` from place `at` on, as much of it as fits.
+/// Lays `from` over `to` from place `at` on, as much of it as fits.
 pub fn lay(from: &[u8], to: &mut [u8], at: usize)
     ensures { to.new ≡ write_at at from.now to.old }
 {
-    let start = least(at, to.len());
+    let start = at.min(to.len());
     let fitting = piece(from, 0, to.len() - start);
     let end = start + fitting.len();
     to[start..end].copy_from_slice(fitting);
 }
 
-// Lays `from` over the n bytes of `to` from place `at` on, from place `offset` of these on: nothing outside them changes.
+/// Lays `from` over the n bytes of `to` from place `at` on, from place `offset` of these on: nothing outside them changes.
 pub fn place(from: &[u8], to: &mut [u8], at: usize, n: usize, offset: usize)
     ensures { to.new ≡ on_part at n (write_at offset from.now) to.old }
 {
-    if n <= offset {
-        return;
-    }
-    let start = sum(at, offset, to.len());
-    lay(piece(from, 0, n - offset), to, start);
+    let fitting = piece(from, 0, n.saturating_sub(offset));
+    lay(fitting, to, sum(at, offset, to.len()));
 }
 
-// Makes the n bytes from place `at` on all the same, as many of them as there are.
+/// Makes the n bytes from place `at` on all the same, as many of them as there are.
 pub fn fill(to: &mut [u8], at: usize, n: usize, byte: u8)
     ensures { to.new ≡ write_at at (replicate n byte) to.old }
 {
-    let start = least(at, to.len());
+    let start = at.min(to.len());
     let end = sum(start, n, to.len());
-    let mut i = start;
-    while i < end {
-        to[i] = byte;
-        i += 1;
-    }
+    to[start..end].fill(byte);
 }

@@ -5,27 +5,23 @@ ghost use Rattle.octets.specs.Search.{index_of};
 
 use super::parts;
 
-// Whether two rows are the same.
+/// Whether two rows are the same.
 pub fn same(a: &[u8], b: &[u8]) -> bool
     ensures { result ≡ same_bytes a.now b.now }
 {
     a == b
 }
 
-// The place of the first `byte`, or how many bytes there are where there is none.
+/// The place of the first `byte`, or how many bytes there are where there is none.
+#[tactic(auto, using(crate::proofs::Places::first_there))]
 pub fn find(s: &[u8], byte: u8) -> usize
     ensures place { result ≡ index_of byte s.now }
     ensures within { result ≤ length s.now }
 {
-    for i in 0..s.len() {
-        if s[i] == byte {
-            return i;
-        }
-    }
-    s.len()
+    s.iter().position(|&b| b == byte).unwrap_or(s.len())
 }
 
-// The place of the first zero among the first `most` bytes, or how many bytes were looked at where there is none.
+/// The place of the first zero among the first `most` bytes, or how many bytes were looked at where there is none.
 pub fn first_zero(s: &[u8], most: usize) -> usize
     ensures { result ≡ index_of 0 (take most s.now) }
 {

@@ -23,12 +23,12 @@ laid at s from new to ys p q r =
     rw (r, copied s (s + length new - s) new to count inside, q, part_def, write_at-fit, p) (write_at-min at from to)
 
 pub slice_bounds-copy_from_slice-end : goal.slice_bounds-copy_from_slice-end
-slice_bounds-copy_from_slice-end c = rw (c.piece-fitting.ensures, c.least-start.ensures, length_part) (omega arith)
+slice_bounds-copy_from_slice-end c = rw (c.piece-fitting.ensures, c.min-start.ensures, length_part) (omega arith)
 
 pub returns : goal.returns
 returns c = let args = c.args in
-    let least = c.least-start in
+    let start = c.min-start in
     let piece = c.piece-fitting in
     let copy = c.copy_from_slice in
-    laid args.at least.result args.from.now piece.result.now args.to.now copy.new.self
-    least.ensures piece.ensures copy.ensures.after
+    laid args.at start.result args.from.now piece.result.now args.to.now copy.new.self
+    start.ensures piece.ensures copy.ensures.after

@@ -1,20 +1,16 @@
 -- `octets::parts::place` meets its contract: a write into a part is a write into the whole, of as much as fits in the part. Assumes nothing.
-use Rattle.std.proofs.Common.{◌≡◌, sym, ◌-◌, arith}
+use Rattle.std.proofs.Common.{sym}
 use Rattle.octets.specs.PartLaws.{part_def}
-use Rattle.octets.specs.WriteLaws.{on_part-write_at, write_at-min, write_at-nil}
+use Rattle.octets.specs.WriteLaws.{on_part-write_at, write_at-min}
 use Rattle.octets.proofs.parts.place.Goals as goal
-
-pub returns-then-n-offset : goal.returns-then-n-offset
-returns-then-n-offset c = let args = c.args in
-    let none : args.n - args.offset ≡ 0 = omega arith in
-    rw (on_part-write_at, none, write_at-nil)
 
 pub returns : goal.returns
 returns c = let args = c.args in
     rw (
       c.lay.ensures,
-      c.piece.ensures,
-      c.sum-start.ensures,
+      c.piece-fitting.ensures,
+      c.sum.ensures,
+      c.saturating_sub.ensures,
       part_def,
       write_at-min,
     )

@@ -1,0 +1,3 @@
+-- Lemmas that proofs of functions share.
+mod Bytes
+mod Places
