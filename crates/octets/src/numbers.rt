@@ -13,6 +13,7 @@ fn byte(s: &[u8], at: usize) -> u8
 }
 
 /// The number that the two bytes from place `at` on spell, the lowest byte first; a byte behind the end counts as 0.
+#[tactic(auto, using(crate::proofs::Bytes::little_2, crate::specs::PartLaws::length_part))]
 pub fn read16(s: &[u8], at: usize) -> u32
     ensures { result ≡ little (part at 2 s.now) }
 {
@@ -21,6 +22,7 @@ pub fn read16(s: &[u8], at: usize) -> u32
 }
 
 /// The number that the four bytes from place `at` on spell, the lowest byte first; a byte behind the end counts as 0.
+#[tactic(auto, using(crate::proofs::Bytes::little_4, crate::specs::PartLaws::length_part))]
 pub fn read32(s: &[u8], at: usize) -> u32
     ensures { result ≡ little (part at 4 s.now) }
 {
@@ -30,6 +32,7 @@ pub fn read32(s: &[u8], at: usize) -> u32
 }
 
 /// Spells the lower half of `number` in the two bytes from place `at` on, the lowest byte first, as far as the row goes.
+#[tactic(auto, using(crate::proofs::Bytes::spelled_2))]
 pub fn write16(s: &mut [u8], at: usize, number: u32)
     ensures { s.new ≡ write_at at (spelled 2 number) s.old }
 {
@@ -37,6 +40,7 @@ pub fn write16(s: &mut [u8], at: usize, number: u32)
 }
 
 /// Spells `number` in the four bytes from place `at` on, the lowest byte first, as far as the row goes.
+#[tactic(auto, using(crate::proofs::Bytes::spelled_4))]
 pub fn write32(s: &mut [u8], at: usize, number: u32)
     ensures { s.new ≡ write_at at (spelled 4 number) s.old }
 {
