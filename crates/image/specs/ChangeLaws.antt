@@ -1,13 +1,12 @@
 -- A change of one file that keeps its length: the walk, every place and every other file's contents stay as they were, and a good image stays good.
-use Rattle.std.specs.Prelude.{true, false, List, [], ◌∷◌, ◌≡◌, ℕ, length, refl, drop}
+use Rattle.std.specs.Prelude.{true, false, List, [], ◌∷◌, ◌≡◌, ℕ, length, refl, drop, Option, Some, None}
 use Rattle.std.proofs.Common.{sym, ap, ◌∙◌, arith}
 use Rattle.octets.specs.Lists.{on_part, KeepsLength}
 use Rattle.octets.specs.OnPartLaws.{on_part-id, on_part-twice, on_part_comm, part-on_part-same}
 use Rattle.rows.specs.Records.{chunks, Like}
 use Rattle.rows.specs.WalkLaws.{join-chunks}
 use Rattle.rows.specs.LikeLaws.{by_test, rechunk, length-join}
-use Rattle.image.specs.declared.Found.{Found}
-use Rattle.image.specs.declared.Found.TheVariants.{At, Nothing}
+use Rattle.octets.specs.declared.span.Span.{Span}
 use Rattle.image.specs.Files.{contents_at, contents_length, named, file_in, on_file_in}
 use Rattle.image.specs.Image.{good, spot, file, on_file, on_found}
 use Rattle.image.specs.PlaceLaws.{contents_part, on_file-place}
@@ -82,9 +81,9 @@ module _ (f : List ℕ → List ℕ) (keeps : KeepsLength f) where
     pub on_file-id : f (file p image) ≡ file p image → on_file p f image ≡ image
     on_file-id e = go (spot p image) refl
       where
-        go : (found : Found) → spot p image ≡ found → on_file p f image ≡ image
-        go (At a n) h = rw (on_file-at image f p a n h) (on_part-id a n f image (rw (file-at image p a n h) at e))
-        go Nothing h = on_file-none image f p h
+        go : (found : Option Span) → spot p image ≡ found → on_file p f image ≡ image
+        go (Some s) h = rw (on_file-at image f p s.place s.length h) (on_part-id s.place s.length f image (rw (file-at image p s.place s.length h) at e))
+        go None h = on_file-none image f p h
 
 -- ---- two changes
 
@@ -92,11 +91,16 @@ module _ (f g : List ℕ → List ℕ) (keeps-f : KeepsLength f) (keeps-g : Keep
   pub on_file-twice : on_file p g (on_file p f image) ≡ on_file p (λ l. g (f l)) image
   on_file-twice = go (spot p image) refl
     where
-      go : (found : Found) → spot p image ≡ found → on_file p g (on_file p f image) ≡ on_file p (λ l. g (f l)) image
-      go (At a n) h =
+      go : (found : Option Span) → spot p image ≡ found → on_file p g (on_file p f image) ≡ on_file p (λ l. g (f l)) image
+      go (Some s) h =
           let k = spot-on_file f keeps-f p image p ∙ h in
-          rw (on_file-at (on_file p f image) g p a n k, on_file-at image f p a n h, on_file-at image (λ l. g (f l)) p a n h) (on_part-twice f keeps-f a n g image)
-      go Nothing h =
+          rw (
+            on_file-at (on_file p f image) g p s.place s.length k,
+            on_file-at image f p s.place s.length h,
+            on_file-at image (λ l. g (f l)) p s.place s.length h,
+          )
+          (on_part-twice f keeps-f s.place s.length g image)
+      go None h =
           let k = spot-on_file f keeps-f p image p ∙ h in
           rw (on_file-none (on_file p f image) g p k, on_file-none image f p h, on_file-none image (λ l. g (f l)) p h)
 
@@ -114,8 +118,9 @@ module _ (f g : List ℕ → List ℕ) (keeps-f : KeepsLength f) (keeps-g : Keep
       )
       (swap (spot p image) (spot q image) refl refl)
     where
-      swap : (x y : Found) → spot p image ≡ x → spot q image ≡ y → on_found x f (on_found y g image) ≡ on_found y g (on_found x f image)
-      swap (At a n) (At b m) h k = on_part_comm f g keeps-f keeps-g a n b m image (spots-apart image p q a n b m differ h k)
-      swap (At a n) Nothing h k = refl
-      swap Nothing (At b m) h k = refl
-      swap Nothing Nothing h k = refl
+      swap : (x y : Option Span) → spot p image ≡ x → spot q image ≡ y → on_found x f (on_found y g image) ≡ on_found y g (on_found x f image)
+      swap (Some s) (Some t) h k =
+          on_part_comm f g keeps-f keeps-g s.place s.length t.place t.length image (spots-apart image p q s.place s.length t.place t.length differ h k)
+      swap (Some s) None h k = refl
+      swap None (Some t) h k = refl
+      swap None None h k = refl

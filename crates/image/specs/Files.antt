@@ -1,10 +1,10 @@
--- Document 01, "Store image and password file": "Image, kind 1: path length (one byte, 2 to 63), path, contents."
-use Rattle.std.specs.Prelude.{Bool, true, false, cond, not, ◌&&◌, List, [], ◌∷◌, ℕ, ◌+◌, ◌-◌, eqb, leb, ltb, length, drop, get_or}
+-- The records of a store image. "Image, kind 1: path length (one byte, 2 to 63), path, contents."
+use Rattle.std.specs.Prelude.{Bool, true, false, cond, not, ◌&&◌, List, [], ◌∷◌, ℕ, ◌+◌, ◌-◌, eqb, leb, ltb, length, drop, get_or, Option, Some, None}
 use Rattle.octets.specs.Lists.{part, on_part}
 use Rattle.octets.specs.Same.{same_bytes}
 use Rattle.rows.specs.Records.{payload_length, kind, whole}
-use Rattle.image.specs.declared.Found.{Found}
-use Rattle.image.specs.declared.Found.TheVariants.{At, Nothing}
+use Rattle.octets.specs.declared.span.Span.{Span}
+use Rattle.octets.specs.Spans.{span}
 
 -- ---- one record
 
@@ -36,9 +36,9 @@ named p c = good_record c && same_bytes (path c) p
 -- ---- all records of an image
 
 -- where the contents of the first file with path p stand, for records that stand from place `at` on
-unfoldable pub spot_in : List ℕ → ℕ → List (List ℕ) → Found
-spot_in p at [] = Nothing
-spot_in p at (c ∷ cs) = cond (named p c) (At (at + contents_at c) (contents_length c)) (spot_in p (at + length c) cs)
+unfoldable pub spot_in : List ℕ → ℕ → List (List ℕ) → Option Span
+spot_in p at [] = None
+spot_in p at (c ∷ cs) = cond (named p c) (Some (span (at + contents_at c) (contents_length c))) (spot_in p (at + length c) cs)
 
 -- the contents of the first file with path p; none where there is no such file
 unfoldable pub file_in : List ℕ → List (List ℕ) → List ℕ

@@ -1,12 +1,12 @@
 -- In a good image every record is a file, and is found by its path.
-use Rattle.std.specs.Prelude.{true, false, not, ◌&&◌, List, [], ◌∷◌, ◌++◌, ◌≡◌, ℕ, ◌+◌, length}
+use Rattle.std.specs.Prelude.{true, false, not, ◌&&◌, List, [], ◌∷◌, ◌++◌, ◌≡◌, ℕ, ◌+◌, length, Some}
 use Rattle.std.proofs.Common.{sym, ◌∙◌, zero-add, arith, length-append}
 use Rattle.std.proofs.Math.Bool.{and-eq-true_iff}
 use Rattle.std.proofs.lemmas.Bool.{false≢true, not-true}
 use Rattle.octets.specs.Same.{same_refl}
 use Rattle.rows.specs.Records.{chunks, join}
 use Rattle.rows.specs.LikeLaws.{by_test}
-use Rattle.image.specs.declared.Found.TheVariants.{At}
+use Rattle.octets.specs.Spans.{span}
 use Rattle.image.specs.Files.{path, contents_at, contents_length, good_record, named, spot_in, holds, good_in}
 use Rattle.image.specs.Image.{good, spot}
 use Rattle.image.specs.PlaceLaws.{named-path, spot-hit, spot_miss}
@@ -33,7 +33,7 @@ good-each [] c ys e = (first_good c ys e).0
 good-each (x ∷ xs) c ys e = good-each xs c ys (first_good x (xs ++ (c ∷ ys)) e).2
 
 found_in : (at : ℕ) (xs : List (List ℕ)) (c : List ℕ) (ys : List (List ℕ)) → good_in (xs ++ (c ∷ ys)) ≡ true
-    → spot_in (path c) at (xs ++ (c ∷ ys)) ≡ At (at + length (join xs) + contents_at c) (contents_length c)
+    → spot_in (path c) at (xs ++ (c ∷ ys)) ≡ Some (span (at + length (join xs) + contents_at c) (contents_length c))
 unfolding join
 found_in at [] c ys e =
     let z : at + 0 + contents_at c ≡ at + contents_at c = omega arith in
@@ -56,6 +56,6 @@ module _ (image : List ℕ) (xs : List (List ℕ)) (c : List ℕ) (ys : List (Li
   unfolding good
   good_record_lem = good-each xs c ys (rw walk at is_good)
 
-  pub good-found : spot (path c) image ≡ At (length (join xs) + contents_at c) (contents_length c)
+  pub good-found : spot (path c) image ≡ Some (span (length (join xs) + contents_at c) (contents_length c))
   unfolding good spot
   good-found = rw walk (found_in 0 xs c ys (rw walk at is_good) ∙ rw zero-add)

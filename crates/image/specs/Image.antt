@@ -1,9 +1,9 @@
--- Document 01, "Store image and password file": the image as files by path.
-use Rattle.std.specs.Prelude.{Bool, true, false, List, [], ℕ}
+-- The store image as files by path.
+use Rattle.std.specs.Prelude.{Bool, List, [], ℕ, Option, Some, None}
 use Rattle.octets.specs.Lists.{part, on_part}
 use Rattle.rows.specs.Records.{chunks, join}
-use Rattle.image.specs.declared.Found.{Found}
-use Rattle.image.specs.declared.Found.TheVariants.{At, Nothing}
+use Rattle.octets.specs.declared.span.Span.{Span}
+use Rattle.std.specs.Option.{is_some}
 use Rattle.image.specs.Files.{spot_in, file_in, on_file_in, good_in}
 
 -- "A cut record or path, another kind, a bad path length or a repeated path makes the image bad."
@@ -11,7 +11,7 @@ unfoldable pub good : List ℕ → Bool
 good image = good_in (chunks image)
 
 -- where the contents of the file with path p stand
-unfoldable pub spot : List ℕ → List ℕ → Found
+unfoldable pub spot : List ℕ → List ℕ → Option Span
 spot p image = spot_in p 0 (chunks image)
 
 -- the contents of the file with path p; none where there is no such file
@@ -23,15 +23,14 @@ unfoldable pub on_file : List ℕ → (List ℕ → List ℕ) → List ℕ → L
 on_file p f image = join (on_file_in p f (chunks image))
 
 -- what stands at a found place; nothing where nothing was found
-unfoldable pub found_part : Found → List ℕ → List ℕ
-found_part (At place n) l = part place n l
-found_part Nothing l = []
+unfoldable pub found_part : Option Span → List ℕ → List ℕ
+found_part (Some p) l = part p.place p.length l
+found_part None l = []
 
 -- a change at a found place; none where nothing was found
-unfoldable pub on_found : Found → (List ℕ → List ℕ) → List ℕ → List ℕ
-on_found (At place n) f l = on_part place n f l
-on_found Nothing f l = l
+unfoldable pub on_found : Option Span → (List ℕ → List ℕ) → List ℕ → List ℕ
+on_found (Some p) f l = on_part p.place p.length f l
+on_found None f l = l
 
-unfoldable pub was_found : Found → Bool
-was_found (At place n) = true
-was_found Nothing = false
+unfoldable pub was_found : Option Span → Bool
+was_found found = is_some found

@@ -5,6 +5,8 @@ use Rattle.std.proofs.Math.Bool.{and-eq-true_iff}
 use Rattle.std.proofs.Math.Nat.{add-sub_cancel_left}
 use Rattle.octets.specs.Lists.{part}
 use Rattle.octets.specs.PartLaws.{drop-part, length-part_in}
+use Rattle.octets.specs.declared.span.Span.{Span}
+use Rattle.octets.specs.Spans.{span, bytes_of}
 use Rattle.rows.specs.declared.Cursor.{Cursor}
 use Rattle.rows.specs.declared.Step.TheVariants as step
 use Rattle.rows.specs.Records.{size, payload_length, kind, whole}
@@ -43,41 +45,43 @@ cut-bad c w = rw w
 
 -- ---- from the numbers that the code reads to the item
 
-module _ (image : List ℕ) (at k start n : ℕ) (next : Cursor) (got : Passed image at k start n next) where
+module _ (image : List ℕ) (at k : ℕ) (payload : Span) (next : Cursor) (got : Passed image at k payload.place payload.length next) where
   -- how many bytes the path has, by the payload's first byte
-  titled : get_or (part start n image) 0 0 ≡ path_length (part at (6 + n) image)
-  unfolding path_length
+  titled : get_or (bytes_of image payload) 0 0 ≡ path_length (part at (6 + payload.length) image)
+  unfolding path_length bytes_of
   titled =
-      let payload-first : part start n image ≡ drop 6 (part at (6 + n) image) = rw (got.starts, drop-part 6 at (6 + n) image, add-sub_cancel_left 6 n) in
+      let n = payload.length in
+      let payload-first : part payload.place n image ≡ drop 6 (part at (6 + n) image) = rw (got.starts, drop-part 6 at (6 + n) image, add-sub_cancel_left 6 n) in
       ap (λ (l : List ℕ). get_or l 0 0) payload-first ∙ get_or-drop 6 (part at (6 + n) image) 0 0
 
-  long : length (part at (6 + n) image) ≡ 6 + n
-  long = let h = got.inside in length-part_in at (6 + n) image (omega arith)
+  long : length (part at (6 + payload.length) image) ≡ 6 + payload.length
+  long = let h = got.inside in length-part_in at (6 + payload.length) image (omega arith)
 
   -- the record is good by the numbers that were read
-  tested : (t : ℕ) → t ≡ get_or (part start n image) 0 0 → good_record (part at (6 + n) image) ≡ good_numbers k t n
+  tested : (t : ℕ) → t ≡ get_or (bytes_of image payload) 0 0 → good_record (part at (6 + payload.length) image) ≡ good_numbers k t payload.length
   unfolding good_record
   tested t e = rw (got.whole_one, got.of_kind, ← titled, ← e, got.counts)
 
-  onward : next ≡ record { at = at + length (part at (6 + n) image) }
-  onward = rw long (let e : next.at ≡ at + (6 + n) = got.goes_on ∙ omega arith in ap (λ (x : ℕ). record { at = x }) e)
+  onward : next ≡ record { at = at + length (part at (6 + payload.length) image) }
+  onward = rw long (let e : next.at ≡ at + (6 + payload.length) = got.goes_on ∙ omega arith in ap (λ (x : ℕ). record { at = x }) e)
 
-  pub item_file : (t : ℕ) → t ≡ get_or (part start n image) 0 0 → good_numbers k t n ≡ true
-      → File (start + 1) t (n - (t + 1)) next ≡ item_at image at
+  pub item_file : (t : ℕ) → t ≡ get_or (bytes_of image payload) 0 0 → good_numbers k t payload.length ≡ true
+      → File (span (payload.place + 1) t) (payload.length - (t + 1)) next ≡ item_at image at
   unfolding item_at item_of contents_length contents_at
   item_file t e g =
-      let seven : start + 1 ≡ at + 7 = let s = got.starts in omega arith in
+      let n = payload.length in
+      let seven : payload.place + 1 ≡ at + 7 = let s = got.starts in omega arith in
       let rest : n - (t + 1) ≡ 6 + n - (7 + t) = omega arith in
       rw (got.walk, tested t e, g, ← titled, ← e, ← onward, long, seven, rest)
 
-  pub item_other : (t : ℕ) → t ≡ get_or (part start n image) 0 0 → good_numbers k t n ≡ false → Other next ≡ item_at image at
+  pub item_other : (t : ℕ) → t ≡ get_or (bytes_of image payload) 0 0 → good_numbers k t payload.length ≡ false → Other next ≡ item_at image at
   unfolding item_at item_of
   item_other t e g = rw (got.walk, tested t e, g, got.whole_one, ← onward)
 
   -- the path lies in the payload, and the payload in the image
-  pub item_room : (t : ℕ) → good_numbers k t n ≡ true → (t + 1 ≤ n) × (start + n ≤ length image)
+  pub item_room : (t : ℕ) → good_numbers k t payload.length ≡ true → (t + 1 ≤ payload.length) × (payload.place + payload.length ≤ length image)
   item_room t g =
-      let h = numbers-room k t n g in
+      let h = numbers-room k t payload.length g in
       let s = got.starts in
       let i = got.inside in
       (omega arith, omega arith)

@@ -1,5 +1,5 @@
 -- By path and by place: a file's contents are that part of the image, and a change of a file is a change of that part.
-use Rattle.std.specs.Prelude.{true, false, List, [], ◌∷◌, ◌++◌, ◌≡◌, refl, ℕ, ◌+◌, ◌-◌, ◌≤◌, length, drop}
+use Rattle.std.specs.Prelude.{true, false, List, [], ◌∷◌, ◌++◌, ◌≡◌, refl, ℕ, ◌+◌, ◌-◌, ◌≤◌, length, drop, Some, None}
 use Rattle.std.proofs.Common.{append_assoc, sym, ◌∙◌, arith, length-append, length-drop, take_all}
 use Rattle.std.proofs.Math.Bool.{and-eq-true_iff}
 use Rattle.octets.specs.Lists.{part}
@@ -9,7 +9,7 @@ use Rattle.rows.specs.Records.{chunks, join}
 use Rattle.rows.specs.WalkLaws.{join-chunks}
 use Rattle.rows.specs.LikeLaws.{by_test}
 use Rattle.rows.specs.ChangeLaws.{on_part-left, on_part-right}
-use Rattle.image.specs.declared.Found.TheVariants.{At, Nothing}
+use Rattle.octets.specs.Spans.{span}
 use Rattle.image.specs.Files.{path, contents_at, contents_length, good_record, named, spot_in, file_in, on_file_in, holds}
 use Rattle.image.specs.Image.{spot, file, on_file, found_part, on_found, was_found}
 use Rattle.image.specs.ItemLaws.{good-room}
@@ -35,12 +35,12 @@ contents_part c = part_def (contents_at c) (length c - contents_at c) c ∙ take
 
 -- ---- the first file with a path
 
-pub spot-none : (p : List ℕ) (at : ℕ) → spot_in p at [] ≡ Nothing
+pub spot-none : (p : List ℕ) (at : ℕ) → spot_in p at [] ≡ None
 unfolding spot_in
 spot-none p at = refl
 
 module _ (p : List ℕ) (at : ℕ) (c : List ℕ) (cs : List (List ℕ)) where
-  pub spot-hit : named p c ≡ true → spot_in p at (c ∷ cs) ≡ At (at + contents_at c) (contents_length c)
+  pub spot-hit : named p c ≡ true → spot_in p at (c ∷ cs) ≡ Some (span (at + contents_at c) (contents_length c))
   unfolding spot_in
   spot-hit e = rw e
 

@@ -1,19 +1,19 @@
 // One record of an image: a file, another record, a cut one, or none.
 ghost use Rattle.std.specs.Prelude.{◌≡◌, get_or};
-ghost use Rattle.octets.specs.Lists.{part};
+ghost use Rattle.octets.specs.Spans.{bytes_of};
 ghost use Rattle.image.specs.Items.{item_at};
 ghost use Rattle.image.specs.Files.{good_numbers};
 
+use octets::span::Span;
 use rows::{Cursor, Step};
 
 // What stands at a place.
-#[derive(Clone, Copy)]
+#[derive(Clone, Copy, Debug, PartialEq, Eq)]
 pub enum Item {
-    // A good record: its path is `title` bytes from place `start` on.
+    // A good record: its path, and behind it contents of `length` bytes.
     File {
-        start: usize,
-        title: usize,
-        size: usize,
+        title: Span,
+        length: usize,
         next: Cursor,
     },
     // A whole record that is not good.
@@ -26,17 +26,12 @@ pub enum Item {
     End,
 }
 
-// The first of the `count` bytes from place `start` on; 0 where there are none.
-fn first(image: &[u8], start: usize, count: usize) -> usize
-    ensures { result ≡ get_or (part start count image.now) 0 0 }
+// The first byte of a part of an image; 0 where it has none.
+#[tactic(auto, unfolding(octets::specs::Spans::bytes_of))]
+fn first(image: &[u8], part: Span) -> usize
+    ensures { result ≡ get_or (bytes_of image.now part) 0 0 }
 {
-    if count == 0 {
-        return 0;
-    }
-    if image.len() <= start {
-        return 0;
-    }
-    image[start] as usize
+    usize::from(part.of(image).first().copied().unwrap_or(0))
 }
 
 // Whether these are a good record's numbers: its kind, its path's length and its payload's.
@@ -56,20 +51,19 @@ pub fn item_at(image: &[u8], at: usize) -> Item
         Step::Cut => Item::Cut,
         Step::Record {
             kind,
-            start,
-            count,
+            payload,
             next,
         } => {
-            let title = first(image, start, count);
-            if good_numbers(kind, title, count) {
-                return Item::File {
-                    start: start + 1,
-                    title,
-                    size: count - (title + 1),
-                    next,
-                };
+            let length = first(image, payload);
+            if !good_numbers(kind, length, payload.length) {
+                return Item::Other { next };
             }
-            Item::Other { next }
+            let place = payload.place + 1;
+            Item::File {
+                title: Span { place, length },
+                length: payload.length - (length + 1),
+                next,
+            }
         }
     }
 }

@@ -4,7 +4,8 @@
 // ends where the row ends or cuts a record off.
 #![tactic(auto)]
 
-use octets::{parts, search};
+use octets::search;
+use octets::span::Span;
 use rows::Cursor;
 
 mod item;
@@ -18,105 +19,69 @@ ghost use Rattle.image.specs.Files.{spot_in};
 
 use item::Item;
 
-// Where a file's contents stand.
-#[derive(Clone, Copy)]
-pub enum Found {
-    At { place: usize, length: usize },
-    Nothing,
-}
-
-// The first file with a path, from a cursor on.
-fn find_from(image: &[u8], from: Cursor, path: &[u8]) -> Found
+// Where the contents of the first file with a path stand, from a cursor on.
+fn find_from(image: &[u8], from: Cursor, path: &[u8]) -> Option<Span>
     ensures { result ≡ spot_in path.now from.at (chunks (drop from.at image.now)) }
 {
     let mut cursor = from;
     loop {
         match reader::read(image, cursor) {
             Item::File {
-                start,
                 title,
-                size,
+                length,
                 next,
             } => {
-                if search::same(parts::piece(image, start, title), path) {
-                    let place = start + title;
-                    return Found::At {
-                        place,
-                        length: size,
-                    };
+                if search::same(title.of(image), path) {
+                    let place = title.place + title.length;
+                    return Some(Span { place, length });
                 }
                 cursor = next;
             }
-            Item::Other { next } => {
-                cursor = next;
-            }
-            Item::Cut => {
-                return Found::Nothing;
-            }
-            Item::End => {
-                return Found::Nothing;
-            }
+            Item::Other { next } => cursor = next,
+            Item::Cut | Item::End => return None,
         }
     }
 }
 
-// Where the contents of the file with a path stand.
-pub fn find(image: &[u8], path: &[u8]) -> Found
+/// Where the contents of the file with a path stand.
+#[tactic(auto, unfolding(crate::specs::Image::spot))]
+pub fn find(image: &[u8], path: &[u8]) -> Option<Span>
     ensures { result ≡ spot path.now image.now }
 {
     find_from(image, Cursor::new(), path)
 }
 
-// The contents of the file with a path, as a part of the image; the empty part where there is none.
+/// The contents of the file with a path, as a part of the image; the empty part where there is none.
+#[tactic(auto, using(crate::proofs::Found::part_or_none))]
 pub fn contents<'a>(image: &'a [u8], path: &[u8]) -> &'a [u8]
     ensures { result.now ≡ file path.now image.now }
 {
-    match find(image, path) {
-        Found::At { place, length } => parts::piece(image, place, length),
-        Found::Nothing => parts::piece(image, 0, 0),
-    }
+    find(image, path).unwrap_or(Span::NONE).of(image)
 }
 
-// Whether the file from place `start` on, whose path is `title` bytes long, comes again from a cursor on.
-fn again(image: &[u8], start: usize, title: usize, from: Cursor) -> bool
-    ensures { result ≡ again_at image.now start title from.at }
+// Whether a file whose path is the one at `title` comes from a cursor on.
+#[tactic(auto, unfolding(crate::specs::Items::again_at, crate::specs::Image::was_found), using(crate::proofs::Found::held))]
+fn again(image: &[u8], title: Span, from: Cursor) -> bool
+    ensures { result ≡ again_at image.now title from.at }
 {
-    match find_from(image, from, parts::piece(image, start, title)) {
-        Found::At {
-            place: _,
-            length: _,
-        } => true,
-        Found::Nothing => false,
-    }
+    find_from(image, from, title.of(image)).is_some()
 }
 
-// Whether the image is good: every record is, and no path comes twice.
+/// Whether the image is good: every record is, and no path comes twice.
 pub fn good(image: &[u8]) -> bool
     ensures { result ≡ good image.now }
 {
     let mut cursor = Cursor::new();
     loop {
         match reader::read(image, cursor) {
-            Item::File {
-                start,
-                title,
-                size: _,
-                next,
-            } => {
-                if again(image, start, title, next) {
+            Item::File { title, next, .. } => {
+                if again(image, title, next) {
                     return false;
                 }
                 cursor = next;
             }
-            Item::Other { next: _ } => {
-                return false;
-            }
-            Item::Cut => {
-                return false;
-            }
-            Item::End => {
-                return true;
-            }
+            Item::Other { .. } | Item::Cut => return false,
+            Item::End => return true,
         }
     }
 }

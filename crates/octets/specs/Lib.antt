@@ -10,3 +10,4 @@ pub mod NumberLaws
 pub mod Same
 pub mod Search
 pub mod Spans
+pub mod SpanLaws

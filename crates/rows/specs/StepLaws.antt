@@ -5,6 +5,8 @@ use Rattle.std.proofs.lemmas.Bool.{false≢true}
 use Rattle.octets.specs.Lists.{part}
 use Rattle.octets.specs.Numbers.{little}
 use Rattle.octets.specs.PartLaws.{part_def, part-drop}
+use Rattle.octets.specs.Spans.{span}
+use Rattle.octets.specs.declared.span.Span.{Span}
 use Rattle.rows.specs.declared.Cursor.{Cursor}
 use Rattle.rows.specs.declared.Step.TheVariants.{Record, Cut, End}
 use Rattle.rows.specs.Records.{payload_length, kind, size, chunks, whole}
@@ -46,7 +48,7 @@ step_cut row at h k =
     rw (chunks-on (drop at row) some, first-cut (drop at row) short)
 
 pub step-whole : (row : List ℕ) (at : ℕ) → at + size (drop at row) ≤ length row
-    → step_at row at ≡ Record (kind (drop at row)) (at + 6) (payload_length (drop at row)) (record { at = at + size (drop at row) })
+    → step_at row at ≡ Record (kind (drop at row)) (span (at + 6) (payload_length (drop at row))) (record { at = at + size (drop at row) })
 unfolding step_at step_of
 step-whole row at h =
     let l = drop at row in
@@ -72,7 +74,7 @@ pub step-short : (row : List ℕ) (at : ℕ) → at < length row → length row 
 step-short row at h k = step_cut row at h (rw size-drop (omega arith))
 
 pub step_record : (row : List ℕ) (at n : ℕ) → n ≡ little (part at 4 row) → at + 6 + n ≤ length row
-    → step_at row at ≡ Record (little (part (at + 4) 2 row)) (at + 6) n (record { at = at + 6 + n })
+    → step_at row at ≡ Record (little (part (at + 4) 2 row)) (span (at + 6) n) (record { at = at + 6 + n })
 step_record row at n e h =
     let s = size-drop at row in
     let behind : at + size (drop at row) ≡ at + 6 + n = omega arith in
@@ -121,24 +123,24 @@ places {P} row at f g h =
 pub clash : {P : Type 0} → ◌≡◌ {A = ℕ} 0 1 → P
 clash e = absurd (omega arith)
 
-pub step-passed : (row : List ℕ) (at k start n : ℕ) (next : Cursor) → step_at row at ≡ Record k start n next → Passed row at k start n next
-step-passed row at k start n next e = places row at at_end at_cut at-whole
+pub step-passed : (row : List ℕ) (at k : ℕ) (payload : Span) (next : Cursor) → step_at row at ≡ Record k payload next
+    → Passed row at k payload.place payload.length next
+step-passed row at k payload next e = places row at at_end at_cut at-whole
   where
-    at_end : length row ≤ at → Passed row at k start n next
+    at_end : length row ≤ at → Passed row at k payload.place payload.length next
     at_end h = clash (cc (step_end row at h))
 
-    at_cut : at < length row → length row < at + 6 + little (part at 4 row) → Passed row at k start n next
+    at_cut : at < length row → length row < at + 6 + little (part at 4 row) → Passed row at k payload.place payload.length next
     at_cut h g = clash (cc (step-short row at h g))
 
-    at-whole : at + 6 + little (part at 4 row) ≤ length row → Passed row at k start n next
+    at-whole : at + 6 + little (part at 4 row) ≤ length row → Passed row at k payload.place payload.length next
     at-whole h =
         let m = little (part at 4 row) in
         let d = step_record row at m refl h in
         let ek : k ≡ little (part (at + 4) 2 row) = cc in
-        let es : start ≡ at + 6 = cc in
-        let en : n ≡ m = cc in
+        let ep : payload ≡ span (at + 6) m = cc in
         let ex : next ≡ record { at = at + 6 + m } = cc in
-        rw (ek, es, en, ex) (passed row at m refl h)
+        rw (ek, ep, ex) (passed row at m refl h)
 
 -- a record that is cut off is the last one
 pub step-stopped : (row : List ℕ) (at : ℕ) → step_at row at ≡ Cut → (chunks (drop at row) ≡ drop at row ∷ []) × (whole (drop at row) ≡ false)

@@ -8,38 +8,38 @@ ghost use Rattle.std.specs.Prelude.{◌≡◌};
 ghost use Rattle.rows.specs.Steps.{first_place, step_at};
 
 use octets::numbers;
+use octets::span::Span;
 
-// A place in a row.
-#[derive(Clone, Copy)]
+/// A place in a row.
+#[derive(Clone, Copy, Debug, PartialEq, Eq)]
 pub struct Cursor {
     pub at: usize,
 }
 
-// What stands at a cursor.
-#[derive(Clone, Copy)]
+/// What stands at a cursor.
+#[derive(Clone, Copy, Debug, PartialEq, Eq)]
 pub enum Step {
-    // A whole record: its payload is `count` bytes from place `start` on, and the next record stands at `next`.
+    /// A whole record, with the place of the next one.
     Record {
         kind: u32,
-        start: usize,
-        count: usize,
+        payload: Span,
         next: Cursor,
     },
-    // A record that the row's end cuts off.
+    /// A record that the row's end cuts off.
     Cut,
-    // Nothing.
+    /// Nothing.
     End,
 }
 
 impl Cursor {
-    // The place of a row's first record.
+    /// The place of a row's first record.
     pub fn new() -> Self
         ensures { result ≡ first_place }
     {
         Cursor { at: 0 }
     }
 
-    // The record at this place.
+    /// The record at this place.
     pub fn read(self, row: &[u8]) -> Step
         ensures { result ≡ step_at row.now self.at }
     {
@@ -51,17 +51,17 @@ impl Cursor {
         if left < 6 {
             return Step::Cut;
         }
-        let count = numbers::read32(row, at) as usize;
-        if left - 6 < count {
+        let length = numbers::read32(row, at) as usize;
+        if left - 6 < length {
             return Step::Cut;
         }
         let kind = numbers::read16(row, at + 4);
-        let start = at + 6;
-        let next = Cursor { at: start + count };
+        let place = at + 6;
+        let payload = Span { place, length };
+        let next = Cursor { at: place + length };
         Step::Record {
             kind,
-            start,
-            count,
+            payload,
             next,
         }
     }

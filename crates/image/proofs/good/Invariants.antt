@@ -5,8 +5,8 @@ use Rattle.image.specs.Files.{good_in}
 use Rattle.image.specs.Image.{good}
 use Rattle.image.proofs.good.Given as goal
 
-abbrev pub invariant-loop-start : goal.invariant-loop-start
-invariant-loop-start l = good l.image ≡ good_in (chunks (drop l.cursor.at l.image))
+abbrev pub invariant-loop-title : goal.invariant-loop-title
+invariant-loop-title l = good l.image ≡ good_in (chunks (drop l.cursor.at l.image))
 
-abbrev pub decreases-loop-start : goal.decreases-loop-start
-decreases-loop-start l = length l.image - l.cursor.at
+abbrev pub decreases-loop-title : goal.decreases-loop-title
+decreases-loop-title l = length l.image - l.cursor.at

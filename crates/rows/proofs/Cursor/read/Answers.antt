@@ -10,10 +10,10 @@ pub returns-then-left-lt6 : goal.returns-then-left-lt6
 returns-then-left-lt6 c = let args = c.args in
     sym (step-short args.row.now args.self.at (omega arith) (omega arith))
 
-pub returns-then-left-count : goal.returns-then-left-count
-returns-then-left-count c = let args = c.args in
-    sym (step-short args.row.now args.self.at (omega arith) (omega (arith, c.read32-count.ensures)))
+pub returns-then-left-length : goal.returns-then-left-length
+returns-then-left-length c = let args = c.args in
+    sym (step-short args.row.now args.self.at (omega arith) (omega (arith, c.read32-length.ensures)))
 
 pub returns : goal.returns
 returns c = let args = c.args in
-    rw c.read16-kind.ensures (sym (step_record args.row.now args.self.at c.read32-count.result c.read32-count.ensures (omega arith)))
+    rw c.read16-kind.ensures (sym (step_record args.row.now args.self.at c.read32-length.result c.read32-length.ensures (omega arith)))
