@@ -1,8 +1,6 @@
 -- Where start finds its files in the store (document 01, "Store image and password file").
-use Rattle.std.specs.Prelude.{cond, List, [], ◌∷◌, ℕ, ◌+◌, ltb, get_or}
+use Rattle.std.specs.Prelude.{cond, List, [], ◌∷◌, ℕ, ◌+◌, ltb, get_or, Option, Some, None}
 use Rattle.image.specs.Image.{spot}
-use Rattle.image.specs.declared.Found.{Found}
-use Rattle.image.specs.declared.Found.TheVariants.{At, Nothing}
 use Rattle.octets.specs.declared.span.Span.{Span}
 use Rattle.setup.specs.declared.Setup.{Setup}
 use Rattle.octets.specs.Spans.{no_span, span, bytes_of}
@@ -14,9 +12,9 @@ unfoldable pub password_path : ℕ → List ℕ
 password_path p = 47 ∷ 115 ∷ 99 ∷ 111 ∷ 115 ∷ 47 ∷ 112 ∷ 119 ∷ (48 + p) ∷ []
 
 -- where a file was found; the empty span where there is none (415: "a missing file counts 0")
-unfoldable pub span_of : Found → Span
-span_of (At place n) = span place n
-span_of Nothing = no_span
+unfoldable pub span_of : Option Span → Span
+span_of (Some p) = p
+span_of None = no_span
 
 -- where the file of dseg i stands in the store
 unfoldable pub dseg_file : Setup → List ℕ → List ℕ → ℕ → Span

@@ -3,21 +3,15 @@ ghost use Rattle.std.specs.Prelude.{◌≡◌, ◌<◌};
 ghost use Rattle.image.specs.Image.{spot};
 ghost use Rattle.begin.specs.Files.{span_of, dseg_file, password_file, dseg_files, password_files};
 
-use image::Found;
 use octets::parts;
 use setup::{Setup, Span};
 
 // Where the file with a path stands; the empty span where there is none.
+#[tactic(auto, unfolding(crate::specs::Files::span_of))]
 fn located(store: &[u8], path: &[u8]) -> Span
     ensures { result ≡ span_of (spot path.now store.now) }
 {
-    match image::find(store, path) {
-        Found::At { place, length } => Span { place, length },
-        Found::Nothing => Span {
-            place: 0,
-            length: 0,
-        },
-    }
+    image::find(store, path).unwrap_or(Span::NONE)
 }
 
 // Where the file of dseg i stands.

@@ -1,11 +1,11 @@
 -- What it says of two images that they are the same with q's digests blanked, in words in which the blanking has no say; and that a changed digest is blanked.
-use Rattle.std.specs.Prelude.{List, ◌≡◌, ℕ, length, refl}
+use Rattle.std.specs.Prelude.{List, ◌≡◌, ℕ, length, refl, Option, Some, None}
 use Rattle.std.proofs.Common.{sym, ap, ◌∙◌}
 use Rattle.octets.specs.Lists.{part}
 use Rattle.octets.specs.OnPartLaws.{Apart, on_part-same, part-on_part-apart}
 use Rattle.octets.specs.WriteLaws.{length-write_at}
-use Rattle.image.specs.declared.Found.{Found}
-use Rattle.image.specs.declared.Found.TheVariants.{At, Nothing}
+use Rattle.octets.specs.declared.span.Span.{Span}
+use Rattle.octets.specs.Spans.{span}
 use Rattle.image.specs.Image.{spot, file, on_file}
 use Rattle.image.specs.SpotLaws.{on_file-at, on_file-none}
 use Rattle.image.specs.ChangeLaws.{on_file-twice}
@@ -34,7 +34,7 @@ module _ (q : ℕ) (store other : List ℕ) (like : mask_image q store ≡ mask_
   same_but_digests = sym (own-file q store) ∙ ap (file (password_path q)) like ∙ own-file q other
 
   -- every byte of the image that is not q's password file's is the same
-  pub same_bytes_lem : (at n place m : ℕ) → spot (password_path q) store ≡ At at n → Apart at n place m → part place m store ≡ part place m other
+  pub same_bytes_lem : (at n place m : ℕ) → spot (password_path q) store ≡ Some (span at n) → Apart at n place m → part place m store ≡ part place m other
   unfolding mask_image
   same_bytes_lem at n place m found apart =
       sym (part-on_part-apart mask_digests mask-length at n place m store apart)
@@ -50,10 +50,10 @@ module _ (q i : ℕ) (new store : List ℕ) where
   unfolding mask_image
   digest-blanked = on_file-twice (with_digest i new) mask_digests keeps mask-length (password_path q) store ∙ go (spot (password_path q) store) refl
     where
-      go : (found : Found) → spot (password_path q) store ≡ found → on_file (password_path q) (λ l. mask_digests (with_digest i new l)) store ≡ on_file (password_path q) mask_digests store
-      go (At at n) h =
-          on_file-at store (λ l. mask_digests (with_digest i new l)) (password_path q) at n h
-          ∙ on_part-same at n (λ l. mask_digests (with_digest i new l)) mask_digests store (mask-changed i new (part at n store))
-          ∙ sym (on_file-at store mask_digests (password_path q) at n h)
-      go Nothing h =
+      go : (found : Option Span) → spot (password_path q) store ≡ found → on_file (password_path q) (λ l. mask_digests (with_digest i new l)) store ≡ on_file (password_path q) mask_digests store
+      go (Some s) h =
+          on_file-at store (λ l. mask_digests (with_digest i new l)) (password_path q) s.place s.length h
+          ∙ on_part-same s.place s.length (λ l. mask_digests (with_digest i new l)) mask_digests store (mask-changed i new (part s.place s.length store))
+          ∙ sym (on_file-at store mask_digests (password_path q) s.place s.length h)
+      go None h =
           on_file-none store (λ l. mask_digests (with_digest i new l)) (password_path q) h ∙ sym (on_file-none store mask_digests (password_path q) h)

@@ -1,7 +1,7 @@
 -- What start makes and every step keeps.
-use Rattle.std.specs.Prelude.{true, false, List, ◌≡◌, ℕ, ◌+◌, ◌≤◌, ◌<◌, length}
+use Rattle.std.specs.Prelude.{true, false, List, ◌≡◌, ℕ, ◌+◌, ◌≤◌, ◌<◌, length, Some}
 use Rattle.octets.specs.OnPartLaws.{Apart}
-use Rattle.image.specs.declared.Found.TheVariants.{At}
+use Rattle.octets.specs.Spans.{span}
 use Rattle.image.specs.Image.{spot, good as goodImage}
 use Rattle.passwords.specs.PasswordFile.{well_formed, count}
 use Rattle.octets.specs.declared.span.Span.{Span}
@@ -21,7 +21,7 @@ plan_of w = w.terminal.plan
 -- of an active partition
 pub record Seated (w : World) (p : ℕ) : Type 0 where
   -- its password file is the store's file of that path, at the kept place
-  pub found : spot (password_path p) w.store ≡ At (seat_at (plan_of w) p).file.place (seat_at (plan_of w) p).file.length
+  pub found : spot (password_path p) w.store ≡ Some (span (seat_at (plan_of w) p).file.place (seat_at (plan_of w) p).file.length)
   -- "After every call the password table in memory and the file on the store say the same" (document 00, demand 2)
   pub same : file_of w.terminal p w.store ≡ table_of w.terminal p w.tables
   -- the file is well formed
@@ -33,7 +33,7 @@ pub record Seated (w : World) (p : ℕ) : Type 0 where
 pub record Mapped (w : World) (row : ℕ) : Type 0 where
   pub path : List ℕ
   pub free : reserved path ≡ false
-  pub found : spot path w.store ≡ At (segment_at (plan_of w) row).file.place (segment_at (plan_of w) row).file.length
+  pub found : spot path w.store ≡ Some (span (segment_at (plan_of w) row).file.place (segment_at (plan_of w) row).file.length)
   -- the path that the configuration lists is the file's own, right before its contents
   pub titled : ((segment_at (plan_of w) row).path.place + (segment_at (plan_of w) row).path.length ≡ (segment_at (plan_of w) row).file.place)
       × ((segment_at (plan_of w) row).path.length ≡ length path)

@@ -1,10 +1,10 @@
 -- What no step changes: the plan, and of the store where each file stands and how long it all is.
-use Rattle.std.specs.Prelude.{Bool, true, false, ◌||◌, List, ◌≡◌, refl, ℕ, eqb, length}
+use Rattle.std.specs.Prelude.{Bool, true, false, ◌||◌, List, ◌≡◌, refl, ℕ, eqb, length, Some}
 use Rattle.std.proofs.Common.{◌∙◌, eqb-true}
 use Rattle.std.proofs.lemmas.Bool.{eqb-false}
 use Rattle.octets.specs.Lists.{over, on_part}
 use Rattle.octets.specs.WriteLaws.{length_over}
-use Rattle.image.specs.declared.Found.TheVariants.{At}
+use Rattle.octets.specs.Spans.{span}
 use Rattle.image.specs.Image.{spot}
 use Rattle.image.specs.SpotLaws.{on_file-at}
 use Rattle.image.specs.ChangeLaws.{length-on_file, spot-on_file}
@@ -46,7 +46,7 @@ pub spots-trans : (a b c : List ℕ) → SameSpots a b → SameSpots b c → Sam
 spots-trans a b c h k = record { spots = λ path. k.spots path ∙ h.spots path; long = k.long ∙ h.long }
 
 -- a write over a file
-written-spots : (path store : List ℕ) (at n : ℕ) (new : List ℕ) → spot path store ≡ At at n → SameSpots store (on_part at n (over new) store)
+written-spots : (path store : List ℕ) (at n : ℕ) (new : List ℕ) → spot path store ≡ Some (span at n) → SameSpots store (on_part at n (over new) store)
 written-spots path store at n new found =
     rw (← on_file-at store (over new) path at n found)
     (record { spots = spot-on_file (over new) (length_over new) path store; long = length-on_file (over new) (length_over new) path store })

@@ -1,11 +1,11 @@
 -- A change of one file of the store that keeps its length: where each file stands and every other file stay as they were, and a change of a file that is not
 -- a reserved one leaves a good world good.
-use Rattle.std.specs.Prelude.{true, false, List, ◌≡◌, refl, ℕ, ◌+◌, get_or}
+use Rattle.std.specs.Prelude.{true, false, List, ◌≡◌, refl, ℕ, ◌+◌, get_or, Some}
 use Rattle.std.proofs.Common.{sym, ap, ◌∙◌, arith}
 use Rattle.std.proofs.lemmas.Bool.{false≢true}
 use Rattle.octets.specs.Lists.{KeepsLength}
 use Rattle.octets.specs.Same.{same_bytes}
-use Rattle.image.specs.declared.Found.TheVariants.{At}
+use Rattle.octets.specs.Spans.{span}
 use Rattle.image.specs.Image.{spot, file, on_file}
 use Rattle.image.specs.SpotLaws.{file-at}
 use Rattle.image.specs.ChangeLaws.{length-on_file, spot-on_file, good-on_file, file-on_file, file-on_file-other}
@@ -40,7 +40,7 @@ module _ (w : World) (g : Good w) (path : List ℕ) (f : List ℕ → List ℕ) 
   -- ---- the password file of an active partition
 
   pub still_found : (p : ℕ) → is_active (plan_of w) p ≡ true
-      → spot (password_path p) Afterwards ≡ At (seat_at (plan_of w) p).file.place (seat_at (plan_of w) p).file.length
+      → spot (password_path p) Afterwards ≡ Some (span (seat_at (plan_of w) p).file.place (seat_at (plan_of w) p).file.length)
   still_found p a = spot-on_file f keeps path w.store (password_path p) ∙ (g.seated p a).found
 
   -- it is what the store has under its path

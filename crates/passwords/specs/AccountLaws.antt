@@ -1,6 +1,6 @@
 -- What the record view says of a record that is read, and what a change of the digest leaves of it.
-use Rattle.std.specs.Prelude.{Bool, true, false, ◌&&◌, List, [], ◌∷◌, ◌≡◌, refl, ℕ, suc, ◌+◌, ◌≤◌, eqb, leb, length, take, drop}
-use Rattle.std.proofs.Common.{sym, ap, ◌∙◌, le_refl, arith, ne_eqb, leb-true, length-drop, take_all}
+use Rattle.std.specs.Prelude.{Bool, true, false, ◌&&◌, List, [], ◌∷◌, ◌≡◌, refl, ℕ, suc, ◌+◌, ◌≤◌, eqb, leb, length, take, drop, ◌⊎◌}
+use Rattle.std.proofs.Common.{sym, ap, ◌∙◌, le_refl, arith, ne_eqb, leb-true, length-drop, take_all, inl, inr}
 use Rattle.std.proofs.Math.Bool.{and-eq-true_iff}
 use Rattle.std.proofs.lemmas.List.{length-replicate}
 use Prim.Native.Nat.compare
@@ -10,6 +10,7 @@ use Rattle.octets.specs.PartLaws.{part_def, take_part, length_part}
 use Rattle.octets.specs.OnPartLaws.{on_part-same, length-on_part, drop-on_part-behind, part-on_part-same, on_part-twice}
 use Rattle.octets.specs.WriteLaws.{length_over, write_at-zero, on_part-write_at}
 use Rattle.rows.specs.declared.Cursor.{Cursor}
+use Rattle.octets.specs.declared.span.Span.{Span}
 use Rattle.rows.specs.declared.Step.TheVariants.{Record, Cut, End}
 use Rattle.rows.specs.Records.{payload_length, kind, size, join, whole, Alike}
 use Rattle.rows.specs.WalkLaws.{payload_length-same, kind-same, six_size, join-chunks}
@@ -57,10 +58,10 @@ kind-read c k start n next p =
     let head : take 6 (part 0 (6 + n) c) ≡ take 6 c = take_part 6 0 (6 + n) c (omega arith) ∙ part_def 0 6 c in
     sym (kind-same (part 0 (6 + n) c) c head) ∙ p.of_kind
 
-pub shaped-read : (c : List ℕ) (k start n : ℕ) (next : Cursor) → step_at c 0 ≡ Record k start n next
+pub shaped-read : (c : List ℕ) (k : ℕ) (payload : Span) (next : Cursor) → step_at c 0 ≡ Record k payload next
     → shaped c ≡ (eqb (length c) next.at && (leb 1 (length (name c)) && leb (length (name c)) 32))
 unfolding shaped
-shaped-read c k start n next e = rw (whole-read c k start n next (step-passed c 0 k start n next e))
+shaped-read c k payload next e = rw (whole-read c k payload.place payload.length next (step-passed c 0 k payload next e))
 
 pub shaped-cut : (c : List ℕ) → step_at c 0 ≡ Cut → shaped c ≡ false
 unfolding shaped
@@ -73,9 +74,14 @@ shaped-none c e =
     let w : whole [] ≡ false = ne_eqb 0 (size []) (λ z. absurd (omega (arith, six_size []))) in
     rw (nothing, w)
 
-pub obeys-read : (c : List ℕ) (k start n : ℕ) (next : Cursor) → step_at c 0 ≡ Record k start n next → obeys c ≡ (shaped c && (eqb k 2 && no_zero (name c)))
+-- a record that is cut, or none, has no such shape
+pub unshaped : (c : List ℕ) → (step_at c 0 ≡ Cut) ⊎ (step_at c 0 ≡ End) → shaped c ≡ false
+unshaped c (inl e) = shaped-cut c e
+unshaped c (inr e) = shaped-none c e
+
+pub obeys-read : (c : List ℕ) (k : ℕ) (payload : Span) (next : Cursor) → step_at c 0 ≡ Record k payload next → obeys c ≡ (shaped c && (eqb k 2 && no_zero (name c)))
 unfolding obeys
-obeys-read c k start n next e = rw (kind-read c k start n next (step-passed c 0 k start n next e))
+obeys-read c k payload next e = rw (kind-read c k payload.place payload.length next (step-passed c 0 k payload next e))
 
 pub obeys_unshaped : (c : List ℕ) → shaped c ≡ false → obeys c ≡ false
 unfolding obeys

@@ -6,6 +6,7 @@ use Rattle.octets.specs.Lists.{part, on_part, on_nth, KeepsLength}
 use Rattle.octets.specs.PartLaws.{part_def, part_all, take_min, drop_min, length-part_in}
 use Rattle.octets.specs.OnPartLaws.{on_part_def, on_part-id}
 use Rattle.rows.specs.declared.Cursor.{Cursor}
+use Rattle.octets.specs.declared.span.Span as octets
 use Rattle.rows.specs.declared.Step.TheVariants as step
 use Rattle.rows.specs.Records.{size, chunks, join}
 use Rattle.rows.specs.WalkLaws.{six_size, chunks-none, join-chunks}
@@ -86,11 +87,12 @@ ended file at count r = go (chunks (drop at file)) refl
 
 -- ---- from the step of a row
 
-pub reading-passed : (file : List ℕ) (at count k start n : ℕ) (next : Cursor) → step_at file at ≡ step.Record k start n next
+pub reading-passed : (file : List ℕ) (at count k : ℕ) (payload : octets.Span) (next : Cursor) → step_at file at ≡ step.Record k payload next
     → (reading_of count (chunks (drop at file)) ≡ Record (next.at - at) (count + 1)) × (at < next.at) × (next.at ≤ length file)
 unfolding reading_of
-reading-passed file at count k start n next e =
-    let p = step-passed file at k start n next e in
+reading-passed file at count k payload next e =
+    let n = payload.length in
+    let p = step-passed file at k payload next e in
     let goes_on = p.goes_on in
     let inside = p.inside in
     let long : length (part at (6 + n) file) ≡ 6 + n = length-part_in at (6 + n) file (omega arith) in

@@ -37,18 +37,12 @@ pub(crate) fn shaped(entry: &[u8]) -> bool
     ensures { result ≡ shaped entry.now }
 {
     match Cursor::new().read(entry) {
-        Step::Record {
-            kind: _,
-            start: _,
-            count: _,
-            next,
-        } => {
+        Step::Record { next, .. } => {
             let end = next.at;
             let title = name(entry);
             (entry.len() == end) & ((1 <= title.len()) & (title.len() <= 32))
         }
-        Step::Cut => false,
-        Step::End => false,
+        Step::Cut | Step::End => false,
     }
 }
 
@@ -57,18 +51,12 @@ pub(crate) fn obeys(entry: &[u8]) -> bool
     ensures { result ≡ obeys entry.now }
 {
     match Cursor::new().read(entry) {
-        Step::Record {
-            kind,
-            start: _,
-            count: _,
-            next: _,
-        } => {
+        Step::Record { kind, .. } => {
             let fits = shaped(entry);
             let good = no_zero(name(entry));
             fits & ((kind == 2) & good)
         }
-        Step::Cut => false,
-        Step::End => false,
+        Step::Cut | Step::End => false,
     }
 }
 

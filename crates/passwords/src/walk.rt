@@ -27,12 +27,7 @@ pub(crate) fn read(file: &[u8], at: usize, count: usize) -> Reading
     let raised = count + 1;
     let cursor = Cursor { at };
     match cursor.read(file) {
-        Step::Record {
-            kind: _,
-            start: _,
-            count: _,
-            next,
-        } => {
+        Step::Record { next, .. } => {
             let end = next.at;
             Reading::Record {
                 size: end - at,

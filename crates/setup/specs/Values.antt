@@ -8,7 +8,6 @@ use Rattle.std.proofs.Math.Seq.{set_out}
 use Rattle.std.proofs.lemmas.List.{replicate-append-replicate}
 use Rattle.octets.specs.Same.{same_bytes}
 use Rattle.image.specs.Image.{spot, was_found}
-use Rattle.image.specs.declared.Found.{Found}
 use Rattle.octets.specs.declared.span.Span.{Span}
 use Rattle.setup.specs.declared.Segment.{Segment}
 use Rattle.setup.specs.declared.Setup.{Setup}
@@ -104,17 +103,6 @@ module _ (s : Setup) (d16 : length s.dsegs ≡ 16) (m16 : length s.msegs ≡ 16)
   row-behind i h =
       let k : length (permission_table s) ≤ i = omega (arith, table-length) in
       sym (get_or-eq_default (permission_table s) (replicate 8 0) k)
-
--- ---- a path that is not in the image
-
-module _ (look : Bool) (image path : List ℕ) where
-  pub absent-unasked : look ≡ false → false ≡ absent look image path
-  unfolding absent
-  absent-unasked e = rw e
-
-  pub absent_asked : (f : Found) → look ≡ true → spot path image ≡ f → not (was_found f) ≡ absent look image path
-  unfolding absent
-  absent_asked f e g = rw (e, g)
 
 -- ---- paths looked for one by one
 

@@ -7,7 +7,6 @@ ghost use Rattle.setup.specs.Setup.{among, paths_of, path_taken, permission_of, 
 ghost use Rattle.setup.specs.Rules.{reserved, absent, some_writes, code_checks, dseg_checks, mseg_checks, code_missing, some_active, dseg_broken, mseg_broken, bad_partitions};
 
 use super::{Segment, Setup, Span};
-use image::Found;
 use octets::{parts, search};
 
 // Some partition, of the `count` first, is active.
@@ -46,19 +45,11 @@ fn reserved(path: &[u8]) -> bool
 }
 
 // The path has to be in the image, and is not.
+#[tactic(auto, unfolding(crate::specs::Rules::absent, image::specs::Image::was_found))]
 fn absent(look: bool, image: &[u8], path: &[u8]) -> bool
     ensures { result ≡ absent look image.now path.now }
 {
-    if !look {
-        return false;
-    }
-    match image::find(image, path) {
-        Found::At {
-            place: _,
-            length: _,
-        } => false,
-        Found::Nothing => true,
-    }
+    look && image::find(image, path).is_none()
 }
 
 // The path that stands in the text at a span is this one.

@@ -1,13 +1,11 @@
 -- The plan of an accepted set-up: who is active, and where files, tables and segments stand.
-use Rattle.std.specs.Prelude.{Bool, false, ◌&&◌, List, ◌≡◌, refl, ℕ, zero, suc, ◌-◌, ◌≤◌, ◌<◌, ltb, get_or, true, length}
+use Rattle.std.specs.Prelude.{Bool, false, ◌&&◌, List, ◌≡◌, refl, ℕ, zero, suc, ◌-◌, ◌≤◌, ◌<◌, ltb, get_or, true, length, Option, Some, None}
 use Rattle.std.proofs.Common.{not-suc-le-zero, arith, ltb-true, lt-ltb, le-ltb}
 use Rattle.std.proofs.Math.Bool.{and-false, and-eq-true_iff}
 use Rattle.std.proofs.Math.Decide.{dec_le}
 use Rattle.std.proofs.lemmas.Bool.{false≢true}
 use Rattle.rows.specs.LikeLaws.{by_test}
 use Rattle.devices.specs.Choice.{by_cond}
-use Rattle.image.specs.declared.Found.{Found}
-use Rattle.image.specs.declared.Found.TheVariants.{At, Nothing}
 use Rattle.image.specs.Image.{spot, was_found}
 use Rattle.octets.specs.declared.span.Span.{Span}
 use Rattle.setup.specs.declared.Setup.{Setup}
@@ -29,10 +27,10 @@ use Rattle.started.specs.SetUp.{SetUp}
 -- ---- files that were found
 
 -- a file that was found stands where its span says
-pub found-span : (f : Found) → was_found f ≡ true → f ≡ At (span_of f).place (span_of f).length
+pub found-span : (f : Option Span) → was_found f ≡ true → f ≡ Some (span (span_of f).place (span_of f).length)
 unfolding was_found span_of
-found-span (At a n) e = refl
-found-span Nothing e = absurd (false≢true e)
+found-span (Some s) e = refl
+found-span None e = absurd (false≢true e)
 
 -- no bad password file among the first n
 pub password_good : (n p : ℕ) (s : Setup) (store : List ℕ) → bad_passwords n s store ≡ false → p < n → activeOf s p ≡ true → bad_file (password_path p) store ≡ false
@@ -148,5 +146,5 @@ module _ (soft : Bool) (text store : List ℕ) (kept : Kept) (count : ℕ) (acti
       let low : row < 16 = omega arith in
       rw (get_or-firsts (dseg_file s text store) 16 row no_span low, lt-ltb row s.dsegcount h)
 
-  pub file-found : (row : ℕ) → row < s.dsegcount → spot (path_at row) store ≡ At (get_or files row no_span).place (get_or files row no_span).length
+  pub file-found : (row : ℕ) → row < s.dsegcount → spot (path_at row) store ≡ Some (span (get_or files row no_span).place (get_or files row no_span).length)
   file-found row h = rw (file-at row h) (found-span (spot (path_at row) store) (k.declared row h).there)

@@ -1,5 +1,5 @@
 -- The plan and the first state of an accepted start pass the state test.
-use Rattle.std.specs.Prelude.{Bool, false, not, cond, ◌&&◌, ◌||◌, List, ◌++◌, ◌≡◌, ltb, length, take, get_or, replicate, true, refl, ℕ, zero, suc, ◌+◌, ◌-◌, ◌*◌, ◌≤◌, ◌<◌, min, leb}
+use Rattle.std.specs.Prelude.{Bool, false, not, cond, ◌&&◌, ◌||◌, List, ◌++◌, ◌≡◌, ltb, length, take, get_or, replicate, true, refl, ℕ, zero, suc, ◌+◌, ◌-◌, ◌*◌, ◌≤◌, ◌<◌, min, leb, Some}
 use Rattle.std.proofs.Common.{sym, ◌∙◌, length-take, get_or-take, arith, ltb-true, ltb-false, lt-ltb, leb-true, le-leb}
 use Rattle.std.proofs.Math.Bool.{and-eq-true_iff}
 use Rattle.std.proofs.Math.Decide.{dec_le}
@@ -8,7 +8,6 @@ use Rattle.std.proofs.lemmas.Bool.{false≢true, not-false}
 use Rattle.devices.specs.Queue.{no_keys}
 use Rattle.devices.specs.Choice.{by_cond}
 use Rattle.rows.specs.LikeLaws.{by_test}
-use Rattle.image.specs.declared.Found.TheVariants.{At}
 use Rattle.image.specs.Image.{spot, file, was_found}
 use Rattle.image.specs.SpotLaws.{spot-inside}
 use Rattle.passwords.specs.PasswordFile.{well_formed}
@@ -144,7 +143,7 @@ module _ (soft : Bool) (text store arena tables screens : List ℕ) (count : ℕ
       let both = neither (not (was_found (spot (password_path p) store))) (not (well_formed (file (password_path p) store))) b in
       (not-false (was_found (spot (password_path p) store)) both.0, not-false (well_formed (file (password_path p) store)) both.1)
 
-  pub password_spot : (p : ℕ) → activeOf s p ≡ true → spot (password_path p) store ≡ At (get_or passwords p no_span).place (get_or passwords p no_span).length
+  pub password_spot : (p : ℕ) → activeOf s p ≡ true → spot (password_path p) store ≡ Some (span (get_or passwords p no_span).place (get_or passwords p no_span).length)
   password_spot p a =
       rw (password_at soft text store kept count active s k p a) (found-span (spot (password_path p) store) (password_fits p a).0)
 

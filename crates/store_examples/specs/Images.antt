@@ -1,12 +1,12 @@
 -- Small images, worked out by hand from document 01, "Store image and password file".
-use Rattle.std.specs.Prelude.{Bool, true, false, List, [], ◌∷◌, ◌++◌, map, ◌≡◌, refl, ℕ, take, replicate}
+use Rattle.std.specs.Prelude.{Bool, true, false, List, [], ◌∷◌, ◌++◌, map, ◌≡◌, refl, ℕ, take, replicate, Some, None}
 use Rattle.octets.specs.Lists.{part, over, on_part}
 use Rattle.octets.specs.Numbers.{little}
 use Rattle.octets.specs.Same.{same_bytes}
 use Rattle.rows.specs.declared.Step.TheVariants.{Record, Cut, End}
 use Rattle.rows.specs.Records.{payload_length, kind, size, cut, chunks, join, whole}
 use Rattle.rows.specs.Steps.{step_of, step_at}
-use Rattle.image.specs.declared.Found.TheVariants.{At, Nothing}
+use Rattle.octets.specs.Spans.{span}
 use Rattle.image.specs.Files.{path_length, path, contents_at, contents_length, good_numbers, good_record, named, spot_in, file_in, on_file_in, holds, good_in}
 use Rattle.image.specs.Image.{good, spot, file, on_file}
 
@@ -46,7 +46,7 @@ unfolding opened
 records = refl
 
 -- a reader's steps through it
-pub steps : step_at both 0 ∷ step_at both 11 ∷ step_at both 20 ∷ step_at both 99 ∷ [] ≡ Record 1 6 5 (record { at = 11 }) ∷ Record 1 17 3 (record { at = 20 }) ∷ End ∷ End ∷ []
+pub steps : step_at both 0 ∷ step_at both 11 ∷ step_at both 20 ∷ step_at both 99 ∷ [] ≡ Record 1 (span 6 5) (record { at = 11 }) ∷ Record 1 (span 17 3) (record { at = 20 }) ∷ End ∷ End ∷ []
 unfolding opened
 steps = refl
 
@@ -61,7 +61,7 @@ unfolding opened
 cut_step = refl
 
 -- where files stand
-pub places : spot a both ∷ spot b both ∷ spot c both ∷ [] ≡ At 9 2 ∷ At 20 0 ∷ Nothing ∷ []
+pub places : spot a both ∷ spot b both ∷ spot c both ∷ [] ≡ Some (span 9 2) ∷ Some (span 20 0) ∷ None ∷ []
 unfolding opened
 places = refl
 
