@@ -1,7 +1,10 @@
 -- What it says that nothing was refused, and that something was.
-use Rattle.std.specs.Prelude.{Bool, true, false, List, [], ◌∷◌, ◌≡◌, refl, ℕ, eqb}
-use Rattle.std.proofs.Common.{eqb-true, ne_eqb}
+use Rattle.std.specs.Prelude.{Bool, true, false, cond, List, [], ◌∷◌, ◌≡◌, refl, ℕ, eqb, Result}
+use Rattle.std.proofs.Common.{sym, eqb-true, ne_eqb}
+use Rattle.std.proofs.lemmas.Bool.{eqb-false}
+use Rattle.checks.specs.declared.refusal.Refusal.{Refusal}
 use Rattle.checks.specs.Checks.{Check, ◌when◌, refused, after}
+use Rattle.checks.specs.Refusals.{answer, behind}
 
 refused-zero : (n : ℕ) (due : Bool) (number : ℕ) → refused n due number ≡ 0 → n ≡ 0
 unfolding refused
@@ -39,3 +42,11 @@ pub after-refused : (n : ℕ) (checks : List Check) → (n ≡ 0 → ⊥) → af
 unfolding after refused
 after-refused n [] h = refl
 after-refused n (c ∷ checks) h = rw (ne_eqb n 0 h) (after-refused n checks h)
+
+-- behind n, an outcome that is told by a list of checks is told by the list behind n
+pub behind_after : {A : Type 0} (n : ℕ) (checks : List Check) (outcome : Result A Refusal) → answer outcome ≡ after 0 checks → behind n outcome ≡ after n checks
+behind_after n checks outcome e = go (eqb n 0) refl
+  where
+    go : (t : Bool) → eqb n 0 ≡ t → cond t (answer outcome) n ≡ after n checks
+    go true h = rw (eqb-true n 0 h) e
+    go false h = sym (after-refused n checks (eqb-false n 0 h))

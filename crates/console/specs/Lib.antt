@@ -3,3 +3,4 @@ pub mod DeviceChecks
 pub mod Console
 pub mod Halt
 pub mod ConsoleLaws
+pub mod Transfers

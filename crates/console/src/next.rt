@@ -1,12 +1,15 @@
-// Next-read and next-write.
+//! Next-read and next-write.
 ghost use Rattle.std.specs.Prelude.{◌≡◌};
 ghost use Rattle.console.specs.Console.{outcome, read_next, write_next};
 
-use super::{Reply, draw, refusal, refused};
+use super::transfer::{Access, Transfer};
+use super::{Reply, draw};
 use octets::parts;
 use state::Partition;
 
-// Takes the oldest keys of the partition's queue into the buffer.
+/// Takes the oldest keys of the partition's queue into the buffer, `request` of them or as many as there are. `n` is the number of the
+/// common checks, 0 where nothing is refused.
+#[tactic(auto, unfolding(crate::specs::Console::read_next, checks::specs::Settle::settle, crate::specs::Console::refusal, crate::specs::Console::keys_taken))]
 pub fn read_next(
     n: u32,
     part: Partition,
@@ -18,33 +21,28 @@ pub fn read_next(
 ) -> Reply
     ensures { outcome result buffer.new ≡ read_next n part partition major minor request buffer.old }
 {
-    let number = refusal(
-        n,
-        false,
-        false,
-        part,
+    let transfer = Transfer {
+        access: Access::ReadNext,
         partition,
         major,
         minor,
-        0,
+        offset: 0,
         request,
-        buffer.len(),
-    );
+    };
+    let number = transfer.number(n, part, buffer.len());
     if number != 0 {
-        return refused(number, part);
+        return Reply::refused(number, part);
     }
-    let keyboard = part.keyboard;
-    let taken = keyboard.take(request as usize, buffer);
-    let rest = taken.keyboard;
-    let after = part.with_keyboard(rest);
+    let taken = part.keyboard.take(request as usize, buffer);
     Reply {
         number: 0,
         count: taken.count,
-        part: after,
+        part: part.with_keyboard(taken.keyboard),
     }
 }
 
-// Puts the first `request` bytes on the partition's screen.
+/// Puts the first `request` bytes on the partition's screen, from the cursor on. `n` is the number of the common checks.
+#[tactic(auto, unfolding(crate::specs::Console::write_next, checks::specs::Settle::settle, crate::specs::Console::refusal, crate::specs::Console::bytes_put, octets::specs::Lists::part))]
 pub fn write_next(
     n: u32,
     part: Partition,
@@ -57,26 +55,23 @@ pub fn write_next(
 ) -> Reply
     ensures { outcome result screens.new ≡ write_next n part partition major minor request bytes.now screens.old }
 {
-    let number = refusal(
-        n,
-        false,
-        true,
-        part,
+    let transfer = Transfer {
+        access: Access::WriteNext,
         partition,
         major,
         minor,
-        0,
+        offset: 0,
         request,
-        bytes.len(),
-    );
+    };
+    let number = transfer.number(n, part, bytes.len());
     if number != 0 {
-        return refused(number, part);
+        return Reply::refused(number, part);
     }
     let count = request as usize;
-    let after = draw(part, partition, parts::piece(bytes, 0, count), screens);
+    let part = draw(part, partition, parts::piece(bytes, 0, count), screens);
     Reply {
         number: 0,
-        count: count,
-        part: after,
+        count,
+        part,
     }
 }

@@ -1,14 +1,17 @@
-// Random read and write of a screen. Neither moves the cursor.
+//! Random read and write of a screen. Neither moves the cursor.
 ghost use Rattle.std.specs.Prelude.{◌≡◌};
 ghost use Rattle.devices.specs.Screen.{transfer};
 ghost use Rattle.console.specs.Console.{outcome, read_random, written, write_random};
 
-use super::{Reply, refusal, refused};
+use super::transfer::{Access, Transfer};
+use super::{CELLS, Reply, screen_ends};
 use devices::screen;
 use octets::parts;
 use state::Partition;
 
-// Copies cells of the partition's screen, from `offset` on, into the buffer.
+/// Copies `request` cells of the partition's screen, from `offset` on, into the buffer, as many as there are. `n` is the number of the
+/// common checks, 0 where nothing is refused.
+#[tactic(auto, unfolding(crate::specs::Console::read_random, checks::specs::Settle::settle, crate::specs::Console::refusal, crate::specs::Console::cells_moved, crate::specs::Console::cells_of))]
 pub fn read_random(
     n: u32,
     part: Partition,
@@ -22,28 +25,25 @@ pub fn read_random(
 ) -> Reply
     ensures { outcome result buffer.new ≡ read_random n part partition major minor offset request screens.now buffer.old }
 {
-    let number = refusal(
-        n,
-        true,
-        false,
-        part,
+    let transfer = Transfer {
+        access: Access::ReadRandom,
         partition,
         major,
         minor,
         offset,
         request,
-        buffer.len(),
-    );
+    };
+    let number = transfer.number(n, part, buffer.len());
     if number != 0 {
-        return refused(number, part);
+        return Reply::refused(number, part);
     }
-    let at = 2000 * (partition as usize);
-    let cells = parts::piece(screens, at, 2000);
+    let at = CELLS * (partition as usize);
+    let cells = parts::piece(screens, at, CELLS);
     let count = screen::read_at(cells, offset as usize, request as usize, buffer);
     Reply {
         number: 0,
-        count: count,
-        part: part,
+        count,
+        part,
     }
 }
 
@@ -51,13 +51,13 @@ pub fn read_random(
 fn lay(partition: u32, offset: usize, request: usize, bytes: &[u8], screens: &mut [u8]) -> usize
     ensures { transfer result screens.new ≡ written partition offset request bytes.now screens.old }
 {
-    let at = 2000 * (partition as usize);
-    let start = parts::least(at, screens.len());
-    let end = parts::sum(start, 2000, screens.len());
+    let (start, end) = screen_ends(partition, screens.len());
     screen::write_at(&mut screens[start..end], offset, request, bytes)
 }
 
-// Copies bytes over the cells of the partition's screen, from `offset` on.
+/// Copies the first `request` bytes over the cells of the partition's screen, from `offset` on, as many as there are. `n` is the number of
+/// the common checks.
+#[tactic(auto, unfolding(crate::specs::Console::write_random, checks::specs::Settle::settle, crate::specs::Console::refusal, crate::specs::Console::cells_moved))]
 pub fn write_random(
     n: u32,
     part: Partition,
@@ -71,25 +71,22 @@ pub fn write_random(
 ) -> Reply
     ensures { outcome result screens.new ≡ write_random n part partition major minor offset request bytes.now screens.old }
 {
-    let number = refusal(
-        n,
-        true,
-        true,
-        part,
+    let transfer = Transfer {
+        access: Access::WriteRandom,
         partition,
         major,
         minor,
         offset,
         request,
-        bytes.len(),
-    );
+    };
+    let number = transfer.number(n, part, bytes.len());
     if number != 0 {
-        return refused(number, part);
+        return Reply::refused(number, part);
     }
     let count = lay(partition, offset as usize, request as usize, bytes, screens);
     Reply {
         number: 0,
-        count: count,
-        part: part,
+        count,
+        part,
     }
 }

@@ -1,11 +1,11 @@
--- Load, store and flush (document 01, "Calls": Memory, Flush). n is the number of the common checks, 0 where nothing is refused.
+-- Load, store and flush (Memory and Flush among the calls). n is the number of the common checks, 0 where nothing is refused.
 use Rattle.std.specs.Prelude.{cond, not, List, [], ◌∷◌, ℕ, ◌+◌, eqb, ltb, length, take}
 use Rattle.octets.specs.Lists.{part, over, write_at, on_part}
 use Rattle.checks.specs.Checks.{Check, ◌when◌, after}
 use Rattle.checks.specs.Settle.{settle}
 use Rattle.checks.specs.Told.{Told, told}
 use Rattle.state.specs.declared.Segment.{Segment}
-use Rattle.memory.specs.declared.Reach.{Reach}
+use Rattle.memory.specs.Rights.{Reach}
 
 -- the segment's bytes in the arena
 unfoldable pub bytes_of : Segment → List ℕ → List ℕ

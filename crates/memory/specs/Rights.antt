@@ -1,8 +1,11 @@
--- What a partition may do to a segment (document 01, "Configuration database": selectors and permissions).
+-- What a partition may do to a segment: the selectors and permissions of the configuration database.
 use Rattle.std.specs.Prelude.{Bool, cond, ◌&&◌, List, ℕ, ◌+◌, ◌-◌, ltb, leb, get_or, replicate}
 use Rattle.state.specs.declared.Plan.{Plan}
 use Rattle.state.specs.Parts.{segment_at}
-use Rattle.memory.specs.declared.Reach.{Reach}
+use Rattle.state.specs.declared.Segment.{Segment}
+use Rattle.memory.specs.declared.Reach.{Reach as Reached}
+use Rattle.memory.specs.declared.rights.Permission.{Permission}
+use Rattle.memory.specs.declared.rights.Permission.TheVariants.{NoAccess, ReadOnly, ReadWrite}
 
 -- "Selectors: 256 + index for a dseg, 512 + index for an mseg": the segment's row, 0 to 15 for a dseg and 16 to 31 for an mseg, as in the
 -- permission table; 32 where it names none
@@ -24,6 +27,11 @@ unfoldable pub right_of : Plan → List (List ℕ) → ℕ → ℕ → ℕ
 right_of plan permissions row p = cond (declared plan row) (permission (get_or (get_or permissions row (replicate 8 0)) p 0)) 0
 
 -- what a selector gives a partition: its right, whether a file is mapped there (a dseg), the segment
+pub record Reach : Type 0 where
+  pub right : ℕ
+  pub mapped : Bool
+  pub segment : Segment
+
 unfoldable pub reach : Plan → List (List ℕ) → ℕ → ℕ → Reach
 reach plan permissions p selector =
     record {
@@ -31,3 +39,13 @@ reach plan permissions p selector =
       mapped = ltb (row_of selector) 16;
       segment = segment_at plan (row_of selector);
     }
+
+-- ---- what the code's types say in these numbers
+
+abbrev pub number_of : Permission → ℕ
+number_of NoAccess = 0
+number_of ReadOnly = 1
+number_of ReadWrite = 2
+
+abbrev pub reached : Reached → Reach
+reached r = record { right = number_of r.right; mapped = r.mapped; segment = r.segment }

@@ -1,23 +1,30 @@
-// A partition's memory (document 01, "Calls": Memory, Flush): load, store and flush of what a selector reaches.
-//
-// No public function asks anything of its arguments. `n` is the number of the common checks, 0 where nothing is refused.
+//! A partition's memory: load, store and flush of what a selector reaches.
+//!
+//! No public function asks anything of its arguments. `n` is the number of the common checks, 0 where nothing is refused.
 #![tactic(auto)]
 
 ghost use Rattle.std.specs.Prelude.{◌≡◌, ◌+◌, ltb};
+ghost use Rattle.checks.specs.Checks.{after};
+ghost use Rattle.checks.specs.Refusals.{answer};
 ghost use Rattle.checks.specs.Told.{told};
+ghost use Rattle.memory.specs.Rights.{reached};
+ghost use Rattle.memory.specs.Memory.{load_checks, store_checks, flush_checks};
 ghost use Rattle.memory.specs.Memory.{load as Memory·load};
 ghost use Rattle.memory.specs.Memory.{store as Memory·store};
 ghost use Rattle.memory.specs.Memory.{flush as Memory·flush};
 
+use checks::{Refusal, number_behind};
 use octets::parts;
 use state::Segment;
 
 pub mod rights;
 
-// What a selector gives a partition: its right (0 NA, 1 RO, 2 RW), whether a file is mapped there, and the segment.
+pub use rights::Permission;
+
+/// What a selector gives a partition: its right, whether a file is mapped there (a dseg), and the segment.
 #[derive(Clone, Copy)]
 pub struct Reach {
-    pub right: u8,
+    pub right: Permission,
     pub mapped: bool,
     pub segment: Segment,
 }
@@ -26,69 +33,105 @@ pub struct Reach {
 fn leaves(size: usize, offset: usize, n: usize) -> bool
     ensures { result ≡ ltb size (offset + n) }
 {
-    if size < offset {
-        return true;
-    }
-    size - offset < n
+    size < offset || size - offset < n
 }
 
-// Copies a segment's bytes from `offset` on into the buffer, as many as the buffer holds.
-pub fn load(n: u32, reach: Reach, offset: u32, arena: &[u8], buffer: &mut [u8]) -> u32
-    ensures { told result buffer.new ≡ Memory·load n reach offset arena.now buffer.old }
+// What refuses a load of `room` bytes.
+#[tactic(auto, unfolding(checks::specs::Checks::after, checks::specs::Checks::refused, crate::specs::Memory::load_checks))]
+fn load_check(reach: &Reach, offset: usize, room: usize) -> Result<(), Refusal>
+    ensures { answer result ≡ after 0 (load_checks (reached reach.now) offset room) }
 {
-    let memory = reach.segment.memory;
+    if reach.right.is_none() {
+        return Err(Refusal::BadSelector);
+    }
+    if leaves(reach.segment.memory.length, offset, room) {
+        return Err(Refusal::BadOffset);
+    }
+    Ok(())
+}
+
+/// Copies a segment's bytes from `offset` on into the buffer, as many as the buffer holds.
+pub fn load(n: u32, reach: Reach, offset: u32, arena: &[u8], buffer: &mut [u8]) -> u32
+    ensures { told result buffer.new ≡ Memory·load n (reached reach) offset arena.now buffer.old }
+{
     let from = offset as usize;
-    let outside = leaves(memory.length, from, buffer.len());
-    let unlisted = checks::refuse(n, reach.right == 0, 211);
-    let fault = checks::refuse(unlisted, outside, 209);
+    let fault = number_behind(n, load_check(&reach, from, buffer.len()));
     if fault != 0 {
         return fault;
     }
-    let bytes = parts::piece(arena, memory.place, memory.length);
+    let bytes = reach.segment.memory.of(arena);
     parts::lay(parts::piece(bytes, from, buffer.len()), buffer, 0);
     0
 }
 
-// Copies bytes over a segment's from `offset` on.
-pub fn store(n: u32, reach: Reach, offset: u32, bytes: &[u8], arena: &mut [u8]) -> u32
-    ensures { told result arena.new ≡ Memory·store n reach offset bytes.now arena.old }
+// What refuses a store of `room` bytes.
+#[tactic(auto, unfolding(checks::specs::Checks::after, checks::specs::Checks::refused, crate::specs::Memory::store_checks))]
+fn store_check(reach: &Reach, offset: usize, room: usize) -> Result<(), Refusal>
+    ensures { answer result ≡ after 0 (store_checks (reached reach.now) offset room) }
 {
-    let memory = reach.segment.memory;
+    if reach.right.is_none() {
+        return Err(Refusal::BadSelector);
+    }
+    if !reach.right.writes() {
+        return Err(Refusal::NoWrite);
+    }
+    if leaves(reach.segment.memory.length, offset, room) {
+        return Err(Refusal::BadOffset);
+    }
+    Ok(())
+}
+
+/// Copies bytes over a segment's from `offset` on.
+#[tactic(auto, unfolding(crate::specs::Memory::store, checks::specs::Settle::settle))]
+pub fn store(n: u32, reach: Reach, offset: u32, bytes: &[u8], arena: &mut [u8]) -> u32
+    ensures { told result arena.new ≡ Memory·store n (reached reach) offset bytes.now arena.old }
+{
     let from = offset as usize;
-    let outside = leaves(memory.length, from, bytes.len());
-    let unlisted = checks::refuse(n, reach.right == 0, 211);
-    let unwritable = checks::refuse(unlisted, reach.right != 2, 202);
-    let fault = checks::refuse(unwritable, outside, 209);
+    let fault = number_behind(n, store_check(&reach, from, bytes.len()));
     if fault != 0 {
         return fault;
     }
+    let memory = reach.segment.memory;
     parts::place(bytes, arena, memory.place, memory.length, from);
     0
 }
 
-// Writes a dseg's first bytes, as many as the store will take, over its file in the store.
-pub fn flush(n: u32, reach: Reach, taken: u32, arena: &[u8], store: &mut [u8]) -> u32
-    ensures { told result store.new ≡ Memory·flush n reach taken arena.now store.old }
+// What refuses a flush.
+#[tactic(auto, unfolding(checks::specs::Checks::after, checks::specs::Checks::refused, crate::specs::Memory::flush_checks))]
+fn flush_check(reach: &Reach) -> Result<(), Refusal>
+    ensures { answer result ≡ after 0 (flush_checks (reached reach.now)) }
 {
-    let memory = reach.segment.memory;
-    let file = reach.segment.file;
+    if reach.right.is_none() {
+        return Err(Refusal::BadSelector);
+    }
+    if !reach.mapped {
+        return Err(Refusal::NotMapped);
+    }
+    if !reach.right.writes() {
+        return Err(Refusal::NoWrite);
+    }
+    Ok(())
+}
+
+/// Writes a dseg's first bytes, as many as the store will take, over its file in the store; 203 where that is less than the dseg.
+pub fn flush(n: u32, reach: Reach, taken: u32, arena: &[u8], store: &mut [u8]) -> u32
+    ensures { told result store.new ≡ Memory·flush n (reached reach) taken arena.now store.old }
+{
     let count = taken as usize;
-    let unlisted = checks::refuse(n, reach.right == 0, 211);
-    let unmapped = checks::refuse(unlisted, !reach.mapped, 201);
-    let fault = checks::refuse(unmapped, reach.right != 2, 202);
+    let fault = number_behind(n, flush_check(&reach));
     if fault != 0 {
         return fault;
     }
-    let bytes = parts::piece(arena, memory.place, memory.length);
+    let Segment { memory, file, .. } = reach.segment;
     parts::place(
-        parts::piece(bytes, 0, count),
+        parts::piece(memory.of(arena), 0, count),
         store,
         file.place,
         file.length,
         0,
     );
     if count < memory.length {
-        return 203;
+        return Refusal::WriteFailure.number();
     }
     0
 }

@@ -1,6 +1,6 @@
-// Which right a partition has to a segment (document 01, "Configuration database": selectors and permissions).
-ghost use Rattle.std.specs.Prelude.{◌≡◌, get_or, replicate};
-ghost use Rattle.memory.specs.Rights.{row_of, right_of};
+//! Which right a partition has to a segment: selectors and permissions.
+ghost use Rattle.std.specs.Prelude.{◌≡◌, not, eqb, get_or, replicate};
+ghost use Rattle.memory.specs.Rights.{number_of, reached, row_of, right_of};
 ghost use Rattle.memory.specs.Rights.{declared as Rights·declared};
 ghost use Rattle.memory.specs.Rights.{permission as Rights·permission};
 ghost use Rattle.memory.specs.Rights.{reach as Rights·reach};
@@ -8,89 +8,122 @@ ghost use Rattle.memory.specs.Rights.{reach as Rights·reach};
 use super::Reach;
 use state::Plan;
 
-// The row of a selector's segment in the permission table; 32, behind the last, where the selector names none.
+// The rows of the permission table: dseg i is row i, mseg i is row 16 + i.
+const ROWS: usize = 32;
+
+const DSEGS: usize = 16;
+
+/// What a partition may do to a segment.
+#[derive(Clone, Copy, Debug, PartialEq, Eq)]
+pub enum Permission {
+    /// NA: the segment is not in the partition's list.
+    NoAccess,
+    /// RO: load.
+    ReadOnly,
+    /// RW: load, store and flush.
+    ReadWrite,
+}
+
+impl Permission {
+    /// Its number in a permission table and in the configuration database: 0 NA, 1 RO, 2 RW.
+    pub fn number(self) -> u8
+        ensures { result ≡ number_of self }
+    {
+        match self {
+            Permission::NoAccess => 0,
+            Permission::ReadOnly => 1,
+            Permission::ReadWrite => 2,
+        }
+    }
+
+    // The right of a number. Any number but RO and RW counts as NA.
+    #[tactic(auto, unfolding(crate::specs::Rights::permission))]
+    fn of(number: u8) -> Permission
+        ensures { number_of result ≡ Rights·permission number }
+    {
+        match number {
+            1 => Permission::ReadOnly,
+            2 => Permission::ReadWrite,
+            _ => Permission::NoAccess,
+        }
+    }
+
+    pub(crate) fn is_none(self) -> bool
+        ensures { result ≡ eqb (number_of self) 0 }
+    {
+        matches!(self, Permission::NoAccess)
+    }
+
+    pub(crate) fn writes(self) -> bool
+        ensures { result ≡ eqb (number_of self) 2 }
+    {
+        matches!(self, Permission::ReadWrite)
+    }
+}
+
+// The row of a selector's segment in the permission table.
+// Stays: 32, behind the last row, where the selector names none, as `row_of` of specs/Rights has it. All that reads a row takes such a one
+// for an empty segment without a right, so that an `Option` would only be taken apart again.
+#[tactic(auto, unfolding(crate::specs::Rights::row_of))]
 fn row_of(selector: u32) -> usize
     ensures { result ≡ row_of selector }
 {
-    let wide = selector as usize;
-    if selector < 256 {
-        return 32;
+    match selector {
+        256..=271 => selector as usize - 256,
+        512..=527 => selector as usize - 512 + DSEGS,
+        _ => ROWS,
     }
-    if selector < 272 {
-        return wide - 256;
-    }
-    if selector < 512 {
-        return 32;
-    }
-    if selector < 528 {
-        return 16 + (wide - 512);
-    }
-    32
 }
 
 // Whether a row is one of the plan's dsegs or msegs.
-fn declared(plan: Plan, row: usize) -> bool
-    ensures { result ≡ Rights·declared plan row }
+#[tactic(auto, unfolding(crate::specs::Rights::declared))]
+fn declared(plan: &Plan, row: usize) -> bool
+    ensures { result ≡ Rights·declared plan.now row }
 {
-    if row < 16 {
+    if row < DSEGS {
         return row < plan.dsegs;
     }
-    row - 16 < plan.msegs
-}
-
-// Any number but RO and RW counts as NA.
-fn permission(x: u8) -> u8
-    ensures { result ≡ Rights·permission x }
-{
-    if x <= 2 {
-        return x;
-    }
-    0
+    row - DSEGS < plan.msegs
 }
 
 // A row's number for a partition; 0 where the row has none.
-fn number_in(numbers: [u8; 8], partition: u32) -> u8
-    ensures { result ≡ get_or numbers partition 0 }
+fn number_in(numbers: &[u8; 8], partition: u32) -> u8
+    ensures { result ≡ get_or numbers.now partition 0 }
 {
-    let p = partition as usize;
-    if p < 8 {
-        return numbers[p];
-    }
-    0
+    numbers.get(partition as usize).copied().unwrap_or(0)
 }
 
 // The table's number for a row and a partition; 0 where it has none.
-fn number_at(permissions: [[u8; 8]; 32], row: usize, partition: u32) -> u8
-    ensures { result ≡ get_or (get_or permissions row (replicate 8 0)) partition 0 }
+fn number_at(permissions: &[[u8; 8]; 32], row: usize, partition: u32) -> u8
+    ensures { result ≡ get_or (get_or permissions.now row (replicate 8 0)) partition 0 }
 {
-    if 32 <= row {
+    if row >= ROWS {
         return 0;
     }
-    let numbers = permissions[row];
-    number_in(numbers, partition)
+    number_in(&permissions[row], partition)
 }
 
-// What a partition may do to the segment of a row.
-pub fn right(plan: Plan, permissions: [[u8; 8]; 32], row: usize, partition: u32) -> u8
-    ensures { result ≡ right_of plan permissions row partition }
+/// What a partition may do to the segment of a row, 0 to 31.
+#[tactic(auto, unfolding(crate::specs::Rights::right_of))]
+pub fn right(plan: &Plan, permissions: &[[u8; 8]; 32], row: usize, partition: u32) -> Permission
+    ensures { number_of result ≡ right_of plan.now permissions.now row partition }
 {
-    let known = declared(plan, row);
-    if known {
-        return permission(number_at(permissions, row, partition));
+    if declared(plan, row) {
+        Permission::of(number_at(permissions, row, partition))
+    } else {
+        Permission::NoAccess
     }
-    0
 }
 
-// What a selector gives a partition.
-pub fn reach(plan: Plan, permissions: [[u8; 8]; 32], partition: u32, selector: u32) -> Reach
-    ensures { result ≡ Rights·reach plan permissions partition selector }
+/// What a selector gives a partition; no right where the selector names no segment of its list.
+#[tactic(auto, unfolding(crate::specs::Rights::reach))]
+pub fn reach(plan: &Plan, permissions: &[[u8; 8]; 32], partition: u32, selector: u32) -> Reach
+    ensures { reached result ≡ Rights·reach plan.now permissions.now partition selector }
 {
     let row = row_of(selector);
-    let right = right(plan, permissions, row, partition);
-    let segment = plan.segment(row);
     Reach {
-        right,
-        mapped: row < 16,
-        segment,
+        right: right(plan, permissions, row, partition),
+        mapped: row < DSEGS,
+        segment: plan.segment(row),
     }
 }

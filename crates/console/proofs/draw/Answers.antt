@@ -25,9 +25,8 @@ on-screen bytes p x screens after a e cursor start end h =
 
 pub returns : goal.returns
 returns c = let args = c.args in
-    let start = c.least-start in
-    let end = c.sum-end in
+    let ends = c.screen_ends-start in
     let text = c.put_all-cursor in
     rw c.with_cursor.ensures
-    (on-screen args.bytes.now args.partition args.part args.screens.now text.new.cells start.result end.result text.result
-    start.ensures end.ensures text.ensures)
+    (on-screen args.bytes.now args.partition args.part args.screens.now text.new.cells ends.result.0 ends.result.1 text.result
+    ends.ensures.start ends.ensures.end text.ensures)

@@ -6,8 +6,8 @@ use Rattle.console.proofs.halt.shown.Goals as goal
 
 pub returns-then-end-looked : goal.returns-then-end-looked
 unfolding shown_message message_end
-returns-then-end-looked c = rw (c.piece.ensures, part_def, ← c.first_zero-end.ensures, length-take, ← c.least-looked.ensures, c.if-end-looked.true)
+returns-then-end-looked c = rw (c.piece.ensures, part_def, ← c.first_zero-end.ensures, length-take, ← c.min-looked.ensures, c.if-end-looked.true)
 
 pub returns : goal.returns
 unfolding shown_message message_end
-returns c = rw (c.piece-2.ensures, part_def, ← c.first_zero-end.ensures, length-take, ← c.least-looked.ensures, c.if-end-looked.false)
+returns c = rw (c.piece-2.ensures, part_def, ← c.first_zero-end.ensures, length-take, ← c.min-looked.ensures, c.if-end-looked.false)

@@ -23,8 +23,7 @@ on-screen p offset request bytes screens after a e count start end h =
 
 pub returns : goal.returns
 returns c = let args = c.args in
-    let start = c.least-start in
-    let end = c.sum-end in
+    let ends = c.screen_ends-start in
     let write = c.write_at in
-    on-screen args.partition args.offset args.request args.bytes.now args.screens.now write.new.cells start.result end.result write.result
-    start.ensures end.ensures write.ensures
+    on-screen args.partition args.offset args.request args.bytes.now args.screens.now write.new.cells ends.result.0 ends.result.1 write.result
+    ends.ensures.start ends.ensures.end write.ensures

@@ -12,14 +12,14 @@ zero-at (suc n) (suc p) = zero-at n p
 behind : (rows : List (List ℕ)) (row p : ℕ) → length rows ≤ row → ◌≡◌ {A = ℕ} 0 (get_or (get_or rows row (replicate 8 0)) p 0)
 behind rows row p h = rw (get_or-eq_default rows (replicate 8 0) h) (zero-at 8 p)
 
-pub returns-then-row-ge32 : goal.returns-then-row-ge32
-returns-then-row-ge32 c = let args = c.args in
-    let count : length c.args.permissions ≡ 32 = search rules in
-    let out : length c.args.permissions ≤ c.args.row = omega arith in
-    behind args.permissions args.row args.partition out
+pub returns-then-row-ge-ROWS : goal.returns-then-row-ge-ROWS
+returns-then-row-ge-ROWS c = let args = c.args in
+    let count : length c.args.permissions.now ≡ 32 = search rules in
+    let out : length c.args.permissions.now ≤ c.args.row = omega arith in
+    behind args.permissions.now args.row args.partition out
 
 pub returns : goal.returns
 returns c = let args = c.args in
-    let count : length c.args.permissions ≡ 32 = search rules in
-    let inside : c.args.row < length c.args.permissions = omega arith in
-    rw (c.number_in.ensures, get_or_any args.permissions args.row [] (replicate 8 0) inside)
+    let count : length c.args.permissions.now ≡ 32 = search rules in
+    let inside : c.args.row < length c.args.permissions.now = omega arith in
+    rw (c.number_in.ensures, get_or_any args.permissions.now args.row [] (replicate 8 0) inside)
