@@ -1,8 +1,9 @@
-// Login, who, set-password and the table test of document 01, over one login record, one password table and one password file.
-//
-// Each call gets n, the number of the checks that all calls share, and goes on with its own: the first that refuses decides.
+//! Login, who, set-password and the table test, over one login record, one password table and one password file.
+//!
+//! Each call gets n, the number of the checks that all calls share, and goes on with its own: the first that refuses decides.
 #![tactic(auto)]
 
+use checks::{Refusal, number_behind};
 use octets::{parts, search};
 use passwords::Lookup;
 use state::{Login, LoginRecord};
@@ -12,6 +13,7 @@ mod users;
 
 ghost use Rattle.std.specs.Prelude.{◌≡◌, [], ◌∷◌, ◌++◌, ◌<◌, ◌^◌};
 ghost use Rattle.checks.specs.Checks.{after};
+ghost use Rattle.checks.specs.Refusals.{answer};
 ghost use Rattle.octets.specs.Lists.{over};
 ghost use Rattle.passwords.specs.PasswordFile.{find};
 ghost use Rattle.passwords.specs.declared.Lookup.TheVariants.{At};
@@ -22,7 +24,8 @@ ghost use Rattle.accounts.specs.Login.{attempt, digested, tried, login_checks, l
 ghost use Rattle.accounts.specs.Who.{who_checks, who};
 ghost use Rattle.accounts.specs.SetPassword.{changed, file_image, on_store, in_memory, written, set_checks, set_password};
 
-// What a login answers: a number, the work count, and who is logged in then.
+/// What a login answers: its number (0: logged in), the work count, and who is logged in then.
+// Stays: a public answer with its number, since number and count stand together (docs/DECISIONS.md, "Forms that stay").
 #[derive(Clone, Copy)]
 pub struct Attempt {
     pub number: u32,
@@ -31,6 +34,7 @@ pub struct Attempt {
 }
 
 // A password's digest, and the work count with it.
+// Stays: the work count is handed on (docs/DECISIONS.md, "Forms that stay").
 #[derive(Clone, Copy)]
 struct Digested {
     digest: [u8; 32],
@@ -42,14 +46,12 @@ const DIGEST_LENGTH: usize = 32;
 // A name of 32 bytes and its zero.
 const NAME_ROOM: usize = 33;
 
-// Whether a table can be read, and the user's place is a record of it.
+/// Whether a table can be read, and the user's place is a record of it.
+#[tactic(auto, unfolding(crate::specs::Users::readable))]
 pub fn readable(held: LoginRecord, table: &[u8]) -> bool
     ensures { result ≡ readable held table.now }
 {
-    let sound = passwords::sound(table);
-    let records = passwords::count(table);
-    let inside = users::placed(held, records);
-    sound & inside
+    passwords::sound(table) && users::placed(held, passwords::count(table))
 }
 
 // The digest of a password, which takes one block, since a string has at most 32 bytes. Nothing else raises the count by a block.
@@ -57,11 +59,9 @@ fn digest_counted(password: &[u8], count: usize) -> Digested
     requires { count < 2 ^ 63 }
     ensures { result ≡ digested (string_of password.now) count }
 {
-    let digest = sha256::digest(strings::string_of(password));
-    let raised = count + 1;
     Digested {
-        digest,
-        count: raised,
+        digest: sha256::digest(strings::string_of(password)),
+        count: count + 1,
     }
 }
 
@@ -70,7 +70,7 @@ fn failed(held: LoginRecord, count: usize) -> Attempt
     ensures { result ≡ attempt 300 count held }
 {
     Attempt {
-        number: 300,
+        number: Refusal::AuthFailure.number(),
         count,
         login: held,
     }
@@ -90,16 +90,15 @@ fn compared(
     ensures { result ≡ tried held table.now (string_of password.now) (At number place count) }
 {
     let work = digest_counted(password, count);
-    let digest = work.digest;
     let wanted = parts::piece(table, place, DIGEST_LENGTH);
-    if search::same(&digest, wanted) {
-        let user = LoginRecord {
+    if search::same(&work.digest, wanted) {
+        let login = LoginRecord {
             user: Login::User { place: number },
         };
         return Attempt {
             number: 0,
             count: work.count,
-            login: user,
+            login,
         };
     }
     failed(held, work.count)
@@ -121,22 +120,30 @@ fn tried(held: LoginRecord, table: &[u8], name: &[u8], password: &[u8]) -> Attem
 }
 
 // What refuses a login. Both strings are checked before the name is looked up.
-fn login_refusal(n: u32, held: LoginRecord, name: &[u8], password: &[u8]) -> u32
-    ensures { result ≡ after n (login_checks held name.now password.now) }
+#[tactic(auto, unfolding(checks::specs::Checks::after, checks::specs::Checks::refused, crate::specs::Login::login_checks))]
+fn login_check(held: LoginRecord, name: &[u8], password: &[u8]) -> Result<(), Refusal>
+    ensures { answer result ≡ after 0 (login_checks held name.now password.now) }
 {
-    let busy = checks::refuse(n, users::is_user(held), 301);
-    let named = checks::refuse(busy, !strings::is_string(name), 302);
-    checks::refuse(named, !strings::is_string(password), 302)
+    if users::is_user(held) {
+        return Err(Refusal::LoginBusy);
+    }
+    if !strings::is_string(name) {
+        return Err(Refusal::InvalidString);
+    }
+    if !strings::is_string(password) {
+        return Err(Refusal::InvalidString);
+    }
+    Ok(())
 }
 
-// Logs a user in.
+/// Logs a user in by name and password, strings that end at their first zero.
 pub fn login(n: u32, held: LoginRecord, table: &[u8], name: &[u8], password: &[u8]) -> Attempt
     ensures { result ≡ login n held table.now name.now password.now }
 {
-    let fault = login_refusal(n, held, name, password);
-    if fault != 0 {
+    let number = number_behind(n, login_check(held, name, password));
+    if number != 0 {
         return Attempt {
-            number: fault,
+            number,
             count: 0,
             login: held,
         };
@@ -149,23 +156,26 @@ fn tell(held: LoginRecord, table: &[u8], buffer: &mut [u8])
     ensures { buffer.new ≡ over (user_name held.user table.now ++ (0 ∷ [])) buffer.old }
 {
     let name = users::user_name(held, table);
-    let zero = [0u8; 1];
     parts::lay(name, buffer, 0);
-    parts::lay(&zero, buffer, name.len());
+    parts::lay(&[0], buffer, name.len());
 }
 
 // What refuses a who.
-fn who_refusal(n: u32, buffer: &[u8]) -> u32
-    ensures { result ≡ after n (who_checks buffer.now) }
+#[tactic(auto, unfolding(checks::specs::Checks::after, checks::specs::Checks::refused, crate::specs::Who::who_checks))]
+fn who_check(buffer: &[u8]) -> Result<(), Refusal>
+    ensures { answer result ≡ after 0 (who_checks buffer.now) }
 {
-    checks::refuse(n, buffer.len() < NAME_ROOM, 214)
+    if buffer.len() < NAME_ROOM {
+        return Err(Refusal::BadBuffer);
+    }
+    Ok(())
 }
 
-// Says who is logged in.
+/// Writes the name of who is logged in, and a zero, into the buffer; for nobody the zero alone.
 pub fn who(n: u32, held: LoginRecord, table: &[u8], buffer: &mut [u8]) -> u32
     ensures { told result buffer.new ≡ who n held table.now buffer.old }
 {
-    let fault = who_refusal(n, buffer);
+    let fault = number_behind(n, who_check(buffer));
     if fault != 0 {
         return fault;
     }
@@ -174,14 +184,14 @@ pub fn who(n: u32, held: LoginRecord, table: &[u8], buffer: &mut [u8]) -> u32
 }
 
 // WRITE_FAILURE where the store takes less than the whole file.
-fn written(taken: u32, file: &[u8]) -> u32
-    ensures { result ≡ written taken file.now }
+#[tactic(auto, unfolding(crate::specs::SetPassword::written))]
+fn written(taken: u32, file: &[u8]) -> Result<(), Refusal>
+    ensures { answer result ≡ written taken file.now }
 {
-    let number = taken as usize;
-    if number < file.len() {
-        return 203;
+    if (taken as usize) < file.len() {
+        return Err(Refusal::WriteFailure);
     }
-    0
+    Ok(())
 }
 
 // Makes the file image of the table in memory: the digest of the new password goes into the user's record.
@@ -198,20 +208,25 @@ fn save(taken: u32, file: &mut [u8], table: &mut [u8])
     ensures { (file.new ≡ on_store taken table.old file.old)
         × (table.new ≡ in_memory (on_store taken table.old file.old) table.old) }
 {
-    let number = taken as usize;
-    passwords::write_first(table, file, number);
+    passwords::write_first(table, file, taken as usize);
     parts::lay(file, table, 0);
 }
 
 // What refuses a set-password.
-fn set_refusal(n: u32, held: LoginRecord, password: &[u8]) -> u32
-    ensures { result ≡ after n (set_checks held password.now) }
+#[tactic(auto, unfolding(checks::specs::Checks::after, checks::specs::Checks::refused, crate::specs::SetPassword::set_checks))]
+fn set_check(held: LoginRecord, password: &[u8]) -> Result<(), Refusal>
+    ensures { answer result ≡ after 0 (set_checks held password.now) }
 {
-    let absent = checks::refuse(n, !users::is_user(held), 303);
-    checks::refuse(absent, !strings::is_string(password), 302)
+    if !users::is_user(held) {
+        return Err(Refusal::NoLogin);
+    }
+    if !strings::is_string(password) {
+        return Err(Refusal::InvalidString);
+    }
+    Ok(())
 }
 
-// Gives the user a new password. The store takes the first `taken` bytes of what is written.
+/// Gives the user a new password. The store takes the first `taken` bytes of what is written; 203 where that is not the whole file.
 pub fn set_password(
     n: u32,
     held: LoginRecord,
@@ -222,12 +237,12 @@ pub fn set_password(
 ) -> u32
     ensures { changed result file.new table.new ≡ set_password n held password.now taken file.old table.old }
 {
-    let fault = set_refusal(n, held, password);
+    let fault = number_behind(n, set_check(held, password));
     if fault != 0 {
         return fault;
     }
-    let number = written(taken, file);
+    let outcome = written(taken, file);
     renew(held, password, table);
     save(taken, file, table);
-    number
+    number_behind(0, outcome)
 }

@@ -1,4 +1,4 @@
-// The strings that a caller hands in: they end at their first zero.
+//! The strings that a caller hands in: they end at their first zero.
 ghost use Rattle.std.specs.Prelude.{◌≡◌};
 ghost use Rattle.accounts.specs.Strings.{is_string, string_of};
 
@@ -11,15 +11,12 @@ const MOST: usize = 33;
 pub(crate) fn is_string(s: &[u8]) -> bool
     ensures { result ≡ is_string s.now }
 {
-    let end = search::first_zero(s, MOST);
-    let looked = parts::least(MOST, s.len());
-    end < looked
+    search::first_zero(s, MOST) < MOST.min(s.len())
 }
 
 // The bytes before that zero.
 pub(crate) fn string_of(s: &[u8]) -> &[u8]
     ensures { result.now ≡ string_of s.now }
 {
-    let end = search::first_zero(s, MOST);
-    parts::piece(s, 0, end)
+    parts::piece(s, 0, search::first_zero(s, MOST))
 }

@@ -5,4 +5,4 @@ use Rattle.accounts.proofs.digest_counted.Goals as goal
 
 pub returns : goal.returns
 unfolding digested
-returns c = rw (c.digest-digest.ensures, c.string_of.ensures, one_block)
+returns c = rw (c.digest.ensures, c.string_of.ensures, one_block)

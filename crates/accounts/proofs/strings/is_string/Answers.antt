@@ -5,4 +5,4 @@ use Rattle.accounts.proofs.strings.is_string.Goals as goal
 
 pub returns : goal.returns
 unfolding ending is_string
-returns c = rw (c.first_zero-end.ensures, c.least-looked.ensures, length-take)
+returns c = rw (c.first_zero.ensures, c.min.ensures, length-take)

@@ -5,4 +5,4 @@ use Rattle.accounts.proofs.strings.string_of.Goals as goal
 
 pub returns : goal.returns
 unfolding ending string_of
-returns c = rw (c.piece.ensures, c.first_zero-end.ensures, part_def)
+returns c = rw (c.piece.ensures, c.first_zero.ensures, part_def)
