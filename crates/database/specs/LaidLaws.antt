@@ -1,8 +1,7 @@
 -- How what the code lays comes together: numbers one behind the other, the path behind an entry's numbers, one entry behind another, and the whole.
-use Rattle.std.specs.Prelude.{Bool, List, [], ◌∷◌, ◌++◌, ◌≡◌, refl, ℕ, ◌+◌, ◌*◌, ◌%◌, ◌≤◌, ◌<◌, get_or, replicate, length}
-use Rattle.std.proofs.Common.{append_assoc, inl, ◌∙◌, zero-add, suc-add, not-suc-le-zero, le_of_suc-le-suc, arith, eq-eqb, ne_eqb, length-append, take_at, drop_at, sym, add-one}
-use Rattle.std.proofs.lemmas.List.{length-replicate}
-use Rattle.setup.specs.Values.{get_or_any}
+use Rattle.std.specs.Prelude.{List, [], ◌∷◌, ◌++◌, ◌≡◌, refl, ℕ, ◌+◌, ◌*◌, ◌%◌, ◌≤◌, ◌<◌, get_or, replicate, length, zero, suc, take}
+use Rattle.std.proofs.Common.{append_assoc, inl, ◌∙◌, zero-add, suc-add, not-suc-le-zero, le_of_suc-le-suc, arith, eq-eqb, ne_eqb, length-append, take_at, drop_at, sym, add-one, length-take}
+use Rattle.std.proofs.lemmas.List.{append-nil, length-replicate}
 use Rattle.octets.specs.Lists.{over, write_at}
 use Rattle.octets.specs.Numbers.{spelled}
 use Rattle.octets.specs.NumberLaws.{length-spelled, spelled_mod}
@@ -10,10 +9,10 @@ use Rattle.octets.specs.WriteLaws.{length-write_at, write_at-zero, write_at-nil,
 use Rattle.state.specs.declared.Plan.{Plan}
 use Rattle.state.specs.declared.Segment.{Segment}
 use Rattle.state.specs.Parts.{segment_at}
-use Rattle.memory.specs.Rights.{declared, right_of}
+use Rattle.memory.specs.Rights.{right_of}
 use Rattle.database.specs.Database.{filled, entry, path_of, entry_of, listed, entries, entry_count, header, database}
 use Rattle.database.specs.DatabaseLaws.{length-header, length-entries, count_most}
-use Rattle.database.specs.Row.{declared_in, right_in, entry_in, Laid, Row, Rows}
+use Rattle.database.specs.Row.{spelled_all, entry_in, Laid, Row, Rows}
 
 -- ---- lists
 
@@ -60,24 +59,35 @@ joined n head rows buffer e h =
 pub behind : (at k : ℕ) (a b old : List ℕ) → length a ≡ k → write_at (at + k) b (write_at at a old) ≡ write_at at (a ++ b) old
 behind at k a b old e = rw e at (write_at-append at a b old)
 
-pub length_two : (a b : ℕ) → length (spelled 4 a ++ spelled 4 b) ≡ 8
-length_two a b = simp (length-append, length-spelled)
+pub length-all : (values : List ℕ) → length (spelled_all values) ≡ 4 * length values
+unfolding spelled_all
+length-all [] = refl
+length-all (v ∷ values) = rw (length-append, length-spelled, length-all values) (omega arith)
 
-pub length_four : (a b c d : ℕ) → length ((spelled 4 a ++ spelled 4 b) ++ (spelled 4 c ++ spelled 4 d)) ≡ 16
-length_four a b c d = simp (length-append, length-spelled)
+-- one number more
+pub one_more : (values : List ℕ) (i : ℕ) → i < length values → spelled_all (take (i + 1) values) ≡ spelled_all (take i values) ++ spelled 4 (get_or values i 0)
+unfolding spelled_all
+one_more [] i h = absurd (not-suc-le-zero h)
+one_more (v ∷ values) zero h = rw append-nil
+one_more (v ∷ values) (suc i) h = rw (suc-add, one_more values i (le_of_suc-le-suc h), append_assoc)
 
-pub header_made : (p count : ℕ) (old : List ℕ)
-    → write_at 16 (spelled 4 p ++ spelled 4 count) (write_at 0 ((spelled 4 1 ++ spelled 4 1) ++ (spelled 4 p ++ spelled 4 2)) old) ≡ write_at 0 (header p count) old
-unfolding header
-header_made p count old =
-    behind 0 16 ((spelled 4 1 ++ spelled 4 1) ++ (spelled 4 p ++ spelled 4 2)) (spelled 4 p ++ spelled 4 count) old (length_four 1 1 p 2) ∙ simp append_assoc
+pub put_more : (values : List ℕ) (i : ℕ) (old : List ℕ) → i < length values
+    → write_at (4 * i) (spelled 4 (get_or values i 0)) (write_at 0 (spelled_all (take i values)) old) ≡ write_at 0 (spelled_all (take (i + 1) values)) old
+put_more values i old h =
+    let few : length (take i values) ≡ i = rw length-take (omega arith) in
+    let long : length (spelled_all (take i values)) ≡ 4 * i = rw (length-all (take i values), few) in
+    rw (one_more values i h, ← zero-add (4 * i))
+    (behind 0 (4 * i) (spelled_all (take i values)) (spelled 4 (get_or values i 0)) old long)
+
+pub header_made : (p count : ℕ) → spelled_all (1 ∷ 1 ∷ p ∷ 2 ∷ p ∷ count ∷ []) ≡ header p count
+unfolding header spelled_all
+header_made p count = rw append-nil
 
 pub entry-made : (kind selector size right : ℕ) (path : List ℕ)
-    → write_at 16 path (write_at 0 ((spelled 4 kind ++ spelled 4 selector) ++ (spelled 4 size ++ spelled 4 right)) (replicate 80 0))
-    ≡ entry kind selector size right path
-unfolding entry
+    → write_at 16 path (write_at 0 (spelled_all (kind ∷ selector ∷ size ∷ right ∷ [])) (replicate 80 0)) ≡ entry kind selector size right path
+unfolding entry spelled_all
 entry-made kind selector size right path =
-    made 16 64 ((spelled 4 kind ++ spelled 4 selector) ++ (spelled 4 size ++ spelled 4 right)) path (length_four kind selector size right) ∙ simp append_assoc
+    made 16 64 (spelled_all (kind ∷ selector ∷ size ∷ right ∷ [])) path (length-all (kind ∷ selector ∷ size ∷ right ∷ [])) ∙ simp (append_assoc, append-nil)
 
 -- four bytes hold of a size what it is modulo 2^32
 pub size-cut : (kind selector size right : ℕ) (path : List ℕ) → entry kind selector (size % 4294967296) right path ≡ entry kind selector size right path
@@ -95,12 +105,6 @@ module _ {segment : Segment} {store : List ℕ} where
   pub row_one : (row count right : ℕ) (old new : List ℕ) → (right ≡ 0 → ⊥) → new ≡ write_at (24 + 80 * count) (entry_in segment store right row) old
       → Laid segment right store row count (count + 1) old new
   row_one row count right old new h l = record { counted = rw (ne_eqb right 0 h); laid = rw (ne_eqb right 0 h) l }
-
--- the right by the plan's two numbers and by a row of the table, read inside it
-pub right-read : (plan : Plan) (permissions : List (List ℕ)) (row p : ℕ) {known : Bool} {right : ℕ} → row < length permissions
-    → known ≡ declared_in plan.dsegs plan.msegs row → right ≡ right_in known (get_or permissions row []) p → right ≡ right_of plan permissions row p
-unfolding right_of declared declared_in right_in
-right-read plan permissions row p h e f = rw (f, e, get_or_any permissions row [] (replicate 8 0) h)
 
 module _ {plan : Plan} {permissions : List (List ℕ)} {store : List ℕ} {p : ℕ} where
   -- what was laid by parts of the plan and of the table is the row's

@@ -1,19 +1,17 @@
 -- How the code lays entries: one row's behind `count` others, and those of the first n rows behind the header's 24 bytes. The code hands down
--- what it needs of the plan and of the permission table, so the first definitions are those of Rights and Database over these parts.
-use Rattle.std.specs.Prelude.{Bool, cond, List, [], ◌≡◌, ℕ, ◌+◌, ◌-◌, ◌*◌, eqb, ltb, get_or}
+-- what it needs of the plan and of the permission table, so the first definitions are those of Database over these parts.
+use Rattle.std.specs.Prelude.{cond, List, [], ◌∷◌, ◌++◌, ◌≡◌, ℕ, ◌+◌, ◌*◌, eqb}
 use Rattle.octets.specs.Lists.{part, write_at}
+use Rattle.octets.specs.Numbers.{spelled}
 use Rattle.state.specs.declared.Segment.{Segment}
 use Rattle.state.specs.declared.Plan.{Plan}
-use Rattle.memory.specs.Rights.{permission, right_of}
+use Rattle.memory.specs.Rights.{right_of}
 use Rattle.database.specs.Database.{kind_of, selector_of, entry, listed, entries, entry_count}
 
--- `declared` by the plan's two numbers
-unfoldable pub declared_in : ℕ → ℕ → ℕ → Bool
-declared_in dsegs msegs row = cond (ltb row 16) (ltb row dsegs) (ltb (row - 16) msegs)
-
--- `right_of` by the numbers of one row of the table
-unfoldable pub right_in : Bool → List ℕ → ℕ → ℕ
-right_in known numbers p = cond known (permission (get_or numbers p 0)) 0
+-- numbers of four bytes, one behind the other
+unfoldable pub spelled_all : List ℕ → List ℕ
+spelled_all [] = []
+spelled_all (v ∷ values) = spelled 4 v ++ spelled_all values
 
 -- `entry_of` by the row's segment
 unfoldable pub entry_in : Segment → List ℕ → ℕ → ℕ → List ℕ

@@ -48,12 +48,14 @@ impl Permission {
         }
     }
 
-    pub(crate) fn is_none(self) -> bool
+    /// Whether it is no right at all, NA.
+    pub fn is_none(self) -> bool
         ensures { result ≡ eqb (number_of self) 0 }
     {
         matches!(self, Permission::NoAccess)
     }
 
+    // Whether it allows a store and a flush.
     pub(crate) fn writes(self) -> bool
         ensures { result ≡ eqb (number_of self) 2 }
     {

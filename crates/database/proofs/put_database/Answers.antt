@@ -7,6 +7,6 @@ returns c = let args = c.args in
     let clear = c.clear in
     let rows = c.put_entries-count in
     let header = c.put_header in
-    whole args.plan args.permissions args.store.now args.partition
+    whole args.plan.now args.permissions.now args.store.now args.partition
     rows.result args.buffer.now clear.new.buffer rows.new.buffer header.new.buffer
     clear.ensures rows.ensures header.ensures

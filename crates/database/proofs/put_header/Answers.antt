@@ -3,9 +3,4 @@ use Rattle.database.specs.LaidLaws.{header_made}
 use Rattle.database.proofs.put_header.Goals as goal
 
 pub returns : goal.returns
-returns c = let args = c.args in
-    rw (
-      c.put_two.ensures,
-      c.put_four.ensures,
-    )
-    (header_made args.partition args.count args.buffer.now)
+returns c = rw (c.put_numbers.ensures, header_made)
