@@ -26,7 +26,7 @@ ghost use Rattle.accounts.specs.SetPassword.{changed, file_image, on_store, in_m
 
 /// What a login answers: its number (0: logged in), the work count, and who is logged in then.
 // Stays: a public answer with its number, since number and count stand together (docs/DECISIONS.md, "Forms that stay").
-#[derive(Clone, Copy)]
+#[derive(Clone, Copy, Debug, PartialEq, Eq)]
 pub struct Attempt {
     pub number: u32,
     pub count: usize,

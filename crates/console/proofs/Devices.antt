@@ -6,10 +6,11 @@ use Rattle.checks.specs.Laws.{behind_after}
 use Rattle.checks.specs.Refusals.{answer, behind}
 use Rattle.state.specs.declared.Partition.{Partition}
 use Rattle.console.specs.DeviceChecks.{no_data, device_checks}
-use Rattle.console.specs.declared.transfer.Device.{Device}
-use Rattle.console.specs.declared.transfer.Device.TheVariants.{Keyboard, Screen}
+use Rattle.state.specs.declared.device.Device.{Device}
+use Rattle.state.specs.declared.device.Device.TheVariants.{Keyboard, Screen}
 use Rattle.console.specs.declared.transfer.Transfer.{Transfer}
-use Rattle.console.specs.Transfers.{checks_of, device_of, the_keyboard, the_screen, unknown, checks_on}
+use Rattle.state.specs.Devices.{device_of}
+use Rattle.console.specs.Transfers.{checks_of, the_keyboard, the_screen, unknown, checks_on}
 
 module _ (major : ℕ) where
   unknown_major : unknown (device_of major) ≡ not (eqb major 1 || eqb major 2)

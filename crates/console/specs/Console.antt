@@ -1,4 +1,4 @@
--- Document 01, "Calls": the four device calls of partition p, whose struct is x, behind the common checks, whose number is n (0 where nothing
+-- The four device calls of partition p, whose struct is x, behind the common checks, whose number is n (0 where nothing
 -- is refused yet).
 use Rattle.std.specs.Prelude.{true, false, List, ℕ, ◌*◌, length, take}
 use Rattle.octets.specs.Lists.{part, on_part}

@@ -1,4 +1,4 @@
--- Document 01, "Calls", Devices: the refusals of the four device calls, in its order.
+-- The refusals of the four device calls, in their order.
 use Rattle.std.specs.Prelude.{Bool, cond, not, ◌&&◌, ◌||◌, List, [], ◌∷◌, ℕ, eqb, ltb}
 use Rattle.checks.specs.Checks.{Check, ◌when◌}
 use Rattle.devices.specs.Queue.{held}

@@ -1,4 +1,4 @@
--- Document 01, "Calls", Shutdown: what it shows on the caller's screen.
+-- What shutdown shows on the caller's screen.
 use Rattle.std.specs.Prelude.{cond, ◌&&◌, List, [], ◌∷◌, ◌++◌, ℕ, leb, ltb, length, take}
 use Rattle.octets.specs.Search.{index_of}
 use Rattle.state.specs.declared.Partition.{Partition}

@@ -1,4 +1,4 @@
--- The calls on a partition's two devices, and the halt notice, in document 01's words.
+-- The calls on a partition's two devices, and the halt notice.
 pub mod DeviceChecks
 pub mod Console
 pub mod Halt

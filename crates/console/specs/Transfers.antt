@@ -6,8 +6,8 @@ use Rattle.state.specs.declared.Partition.{Partition}
 use Rattle.state.specs.Parts.{faulty}
 use Rattle.console.specs.declared.transfer.Access.{Access}
 use Rattle.console.specs.declared.transfer.Access.TheVariants.{ReadNext, ReadRandom, WriteNext, WriteRandom}
-use Rattle.console.specs.declared.transfer.Device.{Device}
-use Rattle.console.specs.declared.transfer.Device.TheVariants.{Keyboard, Screen}
+use Rattle.state.specs.declared.device.Device.{Device}
+use Rattle.state.specs.declared.device.Device.TheVariants.{Keyboard, Screen}
 use Rattle.console.specs.declared.transfer.Transfer.{Transfer}
 use Rattle.console.specs.DeviceChecks.{device_checks}
 
@@ -36,10 +36,6 @@ abbrev pub checks_of : Transfer → Partition → ℕ → List Check
 checks_of t x room = device_checks (is_random t.access) (writes t.access) x t.partition t.major t.minor t.offset t.request room
 
 -- ---- the device
-
--- "Keyboard major 1, screen major 2"
-unfoldable pub device_of : ℕ → Option Device
-device_of major = cond (eqb major 1) (Some Keyboard) (cond (eqb major 2) (Some Screen) None)
 
 abbrev pub is_keyboard : Device → Bool
 is_keyboard Keyboard = true

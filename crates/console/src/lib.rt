@@ -7,7 +7,7 @@
 ghost use Rattle.std.specs.Prelude.{◌≡◌, ◌+◌, ◌*◌, min};
 ghost use Rattle.console.specs.Console.{drawing, drawn};
 
-use devices::screen;
+use devices::screen::{self, CELLS};
 use octets::parts;
 use state::Partition;
 
@@ -16,12 +16,9 @@ pub mod next;
 pub mod random;
 mod transfer;
 
-// How many cells a screen has.
-const CELLS: usize = 2000;
-
 /// What a call answers: its number (0 where it is done), how many keys or cells it moved, and the partition afterwards.
 // Stays: a public answer with its number, since number and count stand together (docs/DECISIONS.md, "Forms that stay").
-#[derive(Clone, Copy)]
+#[derive(Clone, Copy, Debug, PartialEq, Eq)]
 pub struct Reply {
     pub number: u32,
     pub count: usize,

@@ -4,8 +4,8 @@ ghost use Rattle.devices.specs.Screen.{transfer};
 ghost use Rattle.console.specs.Console.{outcome, read_random, written, write_random};
 
 use super::transfer::{Access, Transfer};
-use super::{CELLS, Reply, screen_ends};
-use devices::screen;
+use super::{Reply, screen_ends};
+use devices::screen::{self, CELLS};
 use octets::parts;
 use state::Partition;
 

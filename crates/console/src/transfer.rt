@@ -3,55 +3,26 @@ ghost use Rattle.std.specs.Prelude.{◌≡◌, ◌||◌, eqb};
 ghost use Rattle.checks.specs.Checks.{after};
 ghost use Rattle.checks.specs.Refusals.{answer, number_of};
 ghost use Rattle.devices.specs.Queue.{held};
-ghost use Rattle.console.specs.Transfers.{is_keyboard, is_screen, device_of, is_random, writes, failure_of, checks_on, checks_of};
+ghost use Rattle.console.specs.Transfers.{is_screen, is_random, writes, failure_of, checks_on, checks_of};
 
-use super::CELLS;
 use checks::{Refusal, number_behind};
-use state::Partition;
+use devices::keyboard::Keyboard;
+use devices::screen::CELLS;
+use state::{Device, Partition};
 
-// How many keys a queue holds at most.
-const KEYS: usize = 64;
-
-// A device of a partition.
-#[derive(Clone, Copy, PartialEq, Eq)]
-pub(crate) enum Device {
-    Keyboard,
-    Screen,
-}
-
-impl Device {
-    // The device that a major number names.
-    #[tactic(auto, unfolding(crate::specs::Transfers::device_of))]
-    fn of(major: u32) -> Option<Device>
-        ensures { result ≡ device_of major }
-    {
-        match major {
-            1 => Some(Device::Keyboard),
-            2 => Some(Device::Screen),
-            _ => None,
-        }
-    }
-
-    fn is_keyboard(self) -> bool
-        ensures { result ≡ is_keyboard self }
-    {
-        matches!(self, Device::Keyboard)
-    }
-
-    // Whether there is nothing to next-read: always so of a screen.
-    #[tactic(auto, unfolding(devices::specs::Queue::held))]
-    fn has_no_data(self, part: Partition) -> bool
-        ensures { result ≡ (is_screen self || eqb (held part.keyboard) 0) }
-    {
-        match self {
-            Device::Keyboard => part.keyboard.held.min(KEYS) == 0,
-            Device::Screen => true,
-        }
+// Whether there is nothing to next-read: always so of a screen.
+#[tactic(auto, unfolding(devices::specs::Queue::held))]
+fn has_no_data(device: Device, part: Partition) -> bool
+    ensures { result ≡ (is_screen device || eqb (held part.keyboard) 0) }
+{
+    match device {
+        Device::Keyboard => part.keyboard.held.min(Keyboard::ROOM) == 0,
+        Device::Screen => true,
     }
 }
 
 // The four calls on a device.
-#[derive(Clone, Copy, PartialEq, Eq)]
+#[derive(Clone, Copy)]
 pub(crate) enum Access {
     ReadNext,
     ReadRandom,
@@ -104,13 +75,13 @@ impl Transfer {
         let Some(device) = device else {
             return Err(Refusal::BadMajor);
         };
-        if self.access.is_random() && device.is_keyboard() {
+        if self.access.is_random() && device == Device::Keyboard {
             return Err(Refusal::NotRandom);
         }
         if self.minor != self.partition {
             return Err(Refusal::BadMinor);
         }
-        if self.access.writes() && device.is_keyboard() {
+        if self.access.writes() && device == Device::Keyboard {
             return Err(Refusal::NoWrite);
         }
         let offset = self.offset as usize;
@@ -126,7 +97,7 @@ impl Transfer {
         if part.faulty(self.major) {
             return Err(self.access.failure());
         }
-        if !self.access.writes() && !self.access.is_random() && device.has_no_data(part) {
+        if !self.access.writes() && !self.access.is_random() && has_no_data(device, part) {
             return Err(Refusal::NoData);
         }
         Ok(())

@@ -22,7 +22,7 @@ pub mod rights;
 pub use rights::Permission;
 
 /// What a selector gives a partition: its right, whether a file is mapped there (a dseg), and the segment.
-#[derive(Clone, Copy)]
+#[derive(Clone, Copy, Debug, PartialEq, Eq)]
 pub struct Reach {
     pub right: Permission,
     pub mapped: bool,
