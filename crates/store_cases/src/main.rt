@@ -5,9 +5,8 @@
 // Up to 65,536 bytes are read.
 #![tactic(auto)]
 
-ghost use Rattle.std.specs.Prelude.{◌<◌, length, IfOk};
+ghost use Rattle.std.specs.Prelude.{◌≡◌, ◌<◌, ◌-◌, length, IfOk};
 
-use image::Found;
 use octets::{numbers, parts};
 use passwords::Lookup;
 use std::io;
@@ -20,45 +19,41 @@ fn main(rt: HostRuntime) -> io::Result<()> {
 }
 
 fn cases(rt: &HostRuntime, input: &[u8]) -> io::Result<()> {
-    let mut at = 0;
-    while at < input.len() {
-        at = case(rt, input, at)?;
+    let mut rest = input;
+    while !rest.is_empty() {
+        rest = case(rt, rest)?;
     }
     Ok(())
 }
 
-// Prints the line of the case at a place, and answers the place behind it.
-fn case(rt: &HostRuntime, input: &[u8], at: usize) -> io::Result<usize>
-    requires { at < length input.now }
-    ensures { IfOk result (λ next. at < next) }
+// Prints the line of the first case, and answers what stands behind it.
+fn case<'a>(rt: &HostRuntime, input: &'a [u8]) -> io::Result<&'a [u8]>
+    requires { 0 < length input.now }
+    ensures { IfOk result (λ rest. length rest.now < length input.now) }
 {
-    let end = input.len();
-    let head = parts::piece(input, at, 8);
-    let title = parts::sum(at, 8, end);
-    let query = parts::sum(title, field(head, 1), end);
-    let data = parts::sum(query, field(head, 2), end);
-    let next = parts::sum(data, numbers::read32(head, 4) as usize, end);
-    say(rt, parts::piece(input, title, query - title))?;
+    let (head, rest) = cut(input, 8);
+    let (title, rest) = cut(rest, usize::from(byte(head, 1)));
+    let (query, rest) = cut(rest, usize::from(byte(head, 2)));
+    let (data, rest) = cut(rest, numbers::read32(head, 4) as usize);
+    say(rt, title)?;
     say(rt, b": ")?;
-    let asked = parts::piece(input, query, data - query);
-    let bytes = parts::piece(input, data, next - data);
-    if field(head, 0) == 73 {
-        image_line(rt, bytes, asked)?;
+    if byte(head, 0) == b'I' {
+        image_line(rt, data, query)?;
     } else {
-        passwords_line(rt, bytes, asked)?;
+        passwords_line(rt, data, query)?;
     }
-    Ok(next)
+    Ok(rest)
 }
 
-fn field(head: &[u8], at: usize) -> usize {
-    if at < head.len() {
-        return wide(head[at]);
-    }
-    0
+// The first n bytes, fewer where there are no more, and the rest.
+fn cut(row: &[u8], n: usize) -> (&[u8], &[u8])
+    ensures { length result.1.now ≡ length row.now - n }
+{
+    row.split_at(n.min(row.len()))
 }
 
-fn wide(byte: u8) -> usize {
-    byte as usize
+fn byte(head: &[u8], at: usize) -> u8 {
+    head.get(at).copied().unwrap_or(0)
 }
 
 fn image_line(rt: &HostRuntime, bytes: &[u8], path: &[u8]) -> io::Result<()> {
@@ -69,13 +64,11 @@ fn image_line(rt: &HostRuntime, bytes: &[u8], path: &[u8]) -> io::Result<()> {
     }
     say(rt, path)?;
     match image::find(bytes, path) {
-        Found::At { place, length } => {
-            number(rt, b" at ", place)?;
-            number(rt, b" length ", length)?;
+        Some(contents) => {
+            number(rt, b" at ", contents.place)?;
+            number(rt, b" length ", contents.length)?;
         }
-        Found::Nothing => {
-            say(rt, b" missing")?;
-        }
+        None => say(rt, b" missing")?,
     }
     say(rt, b"\n")
 }

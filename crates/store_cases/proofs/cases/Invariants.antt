@@ -1,6 +1,6 @@
--- Each case ends behind its place, so what is left of the input gets shorter.
-use Rattle.std.proofs.Common.{◌-◌, length}
+-- Each case takes some bytes, so what is left of the input gets shorter.
+use Rattle.std.proofs.Common.{length}
 use Rattle.store_cases.proofs.cases.Given as goal
 
-abbrev pub decreases-loop-at : goal.decreases-loop-at
-decreases-loop-at l = length l.input - l.at
+abbrev pub decreases-loop-rest : goal.decreases-loop-rest
+decreases-loop-rest l = length l.rest
