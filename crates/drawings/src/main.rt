@@ -3,16 +3,16 @@
 // The file `stdout` beside src/ has what a model of its own (tests/drawings) makes of the same runs.
 #![tactic(auto)]
 
-ghost use Rattle.std.specs.Prelude.{◌+◌, ◌≤◌, length};
-
-use devices::screen;
-use octets::parts;
+use devices::screen::{self, CELLS, COLUMNS};
 use std::io;
 use std::io::Write;
 
+// A screen and a cell.
+const LETTERS: usize = CELLS + 1;
+
 fn main(rt: HostRuntime) -> io::Result<()> {
-    let mut cells = [0u8; 2000];
-    let mut letters = [0u8; 2001];
+    let mut cells = [0u8; CELLS];
+    let mut letters = [0u8; LETTERS];
     fill(&mut letters);
     from_the_start(&rt, &mut cells)?;
     control_bytes(&rt, &mut cells)?;
@@ -23,20 +23,20 @@ fn main(rt: HostRuntime) -> io::Result<()> {
 }
 
 // The letters A to Z, over and over.
-fn fill(letters: &mut [u8; 2001]) {
-    for i in 0..2001 {
-        letters[i] = (65 + i % 26) as u8;
+fn fill(letters: &mut [u8; LETTERS]) {
+    for (i, letter) in letters.iter_mut().enumerate() {
+        *letter = b'A' + (i % 26) as u8;
     }
 }
 
-fn from_the_start(rt: &HostRuntime, cells: &mut [u8; 2000]) -> io::Result<()> {
+fn from_the_start(rt: &HostRuntime, cells: &mut [u8; CELLS]) -> io::Result<()> {
     draw(rt, cells, b"nothing", b"", 0, b"")?;
     draw(rt, cells, b"a word", b"", 0, b"VIRPULENS")?;
     draw(rt, cells, b"lines", b"", 0, b"one\ntwo\n\nfour")?;
     draw(rt, cells, b"a word further on", b"", 1000, b"VIRPULENS")
 }
 
-fn control_bytes(rt: &HostRuntime, cells: &mut [u8; 2000]) -> io::Result<()> {
+fn control_bytes(rt: &HostRuntime, cells: &mut [u8; CELLS]) -> io::Result<()> {
     draw(rt, cells, b"13 goes to column 0", b"", 0, b"abcdef\rXY")?;
     draw(rt, cells, b"13 at column 0", b"", 160, b"\r\rA\r")?;
     draw(
@@ -66,8 +66,12 @@ fn control_bytes(rt: &HostRuntime, cells: &mut [u8; 2000]) -> io::Result<()> {
     )
 }
 
-fn at_the_edges(rt: &HostRuntime, cells: &mut [u8; 2000], letters: &[u8; 2001]) -> io::Result<()> {
-    let full = parts::piece(letters, 0, 1999);
+fn at_the_edges(
+    rt: &HostRuntime,
+    cells: &mut [u8; CELLS],
+    letters: &[u8; LETTERS],
+) -> io::Result<()> {
+    let full = &letters[..1999];
     draw(rt, cells, b"column 79", b"", 79, b"ab")?;
     draw(rt, cells, b"column 79, then 10", b"", 79, b"a\nb")?;
     draw(rt, cells, b"column 79, then 13 and 8", b"", 79, b"a\r\x08b")?;
@@ -75,17 +79,14 @@ fn at_the_edges(rt: &HostRuntime, cells: &mut [u8; 2000], letters: &[u8; 2001]) 
     draw(rt, cells, b"10 on row 23", full, 1900, b"\n")
 }
 
-fn over_the_end(rt: &HostRuntime, cells: &mut [u8; 2000], letters: &[u8; 2001]) -> io::Result<()> {
-    let full = parts::piece(letters, 0, 1999);
+fn over_the_end(
+    rt: &HostRuntime,
+    cells: &mut [u8; CELLS],
+    letters: &[u8; LETTERS],
+) -> io::Result<()> {
+    let full = &letters[..1999];
     draw(rt, cells, b"1,999 letters", b"", 0, full)?;
-    draw(
-        rt,
-        cells,
-        b"2,000 letters",
-        b"",
-        0,
-        parts::piece(letters, 0, 2000),
-    )?;
+    draw(rt, cells, b"2,000 letters", b"", 0, &letters[..CELLS])?;
     draw(rt, cells, b"2,001 letters", b"", 0, letters)?;
     draw(rt, cells, b"10 on row 24", full, 1925, b"\n")?;
     draw(rt, cells, b"the last cell, then 10", full, 1999, b"a\n")?;
@@ -109,14 +110,14 @@ fn over_the_end(rt: &HostRuntime, cells: &mut [u8; 2000], letters: &[u8; 2001]) 
 }
 
 // What shutdown writes: a message, then 10 and the notice. A message of a whole row leaves an empty one behind it.
-fn notices(rt: &HostRuntime, cells: &mut [u8; 2000], letters: &[u8; 2001]) -> io::Result<()> {
-    let full = parts::piece(letters, 0, 1999);
+fn notices(rt: &HostRuntime, cells: &mut [u8; CELLS], letters: &[u8; LETTERS]) -> io::Result<()> {
+    let full = &letters[..1999];
     draw(rt, cells, b"a notice", b"", 0, b"DOOR OPEN\nSYSTEM HALTED")?;
     draw(
         rt,
         cells,
         b"a notice behind a whole row",
-        parts::piece(letters, 0, 80),
+        &letters[..COLUMNS],
         80,
         b"\nSYSTEM HALTED",
     )?;
@@ -130,7 +131,7 @@ fn notices(rt: &HostRuntime, cells: &mut [u8; 2000], letters: &[u8; 2001]) -> io
     )
 }
 
-fn random(rt: &HostRuntime, cells: &mut [u8; 2000], letters: &[u8; 2001]) -> io::Result<()> {
+fn random(rt: &HostRuntime, cells: &mut [u8; CELLS], letters: &[u8; LETTERS]) -> io::Result<()> {
     place(rt, cells, b"random write", 700, 9, b"VIRPULENS")?;
     place(
         rt,
@@ -170,7 +171,7 @@ fn random(rt: &HostRuntime, cells: &mut [u8; 2000], letters: &[u8; 2001]) -> io:
 // Draws `before` from the start of a blank screen and `bytes` from the cursor on.
 fn draw(
     rt: &HostRuntime,
-    cells: &mut [u8; 2000],
+    cells: &mut [u8; CELLS],
     what: &[u8],
     before: &[u8],
     cursor: usize,
@@ -186,7 +187,7 @@ fn draw(
 // Writes bytes over a blank screen's cells, and reads as many back.
 fn place(
     rt: &HostRuntime,
-    cells: &mut [u8; 2000],
+    cells: &mut [u8; CELLS],
     what: &[u8],
     offset: usize,
     request: usize,
@@ -202,43 +203,36 @@ fn place(
     show(rt, cells, 0)
 }
 
-fn hexes(rt: &HostRuntime, bytes: &[u8; 20]) -> io::Result<()> {
-    for i in 0..20 {
-        let byte = wide(bytes[i]);
+fn hexes(rt: &HostRuntime, bytes: &[u8]) -> io::Result<()> {
+    for byte in bytes {
         print!(rt; "{byte:02x}")?;
     }
     Ok(())
 }
 
-fn wide(byte: u8) -> u64 {
-    byte as u64
-}
-
-fn show(rt: &HostRuntime, cells: &[u8; 2000], cursor: usize) -> io::Result<()> {
-    let row = cursor / 80;
-    let column = cursor % 80;
+fn show(rt: &HostRuntime, cells: &[u8], cursor: usize) -> io::Result<()> {
+    let row = cursor / COLUMNS;
+    let column = cursor % COLUMNS;
     println!(rt; ": row {row}, column {column}")?;
-    let all: &[u8] = cells;
-    for row in 0..25 {
-        line(rt, all, row * 80)?;
+    for row in cells.chunks(COLUMNS) {
+        line(rt, row)?;
     }
     Ok(())
 }
 
-fn line(rt: &HostRuntime, cells: &[u8], at: usize) -> io::Result<()>
-    requires { at + 80 ≤ length cells.now }
-{
-    let mut text = [124u8; 83];
-    for i in 0..80 {
-        text[i + 1] = shown(cells[at + i]);
+// A row between bars.
+fn line(rt: &HostRuntime, row: &[u8]) -> io::Result<()> {
+    let mut text = [b'|'; COLUMNS + 3];
+    for (place, &byte) in text[1..=COLUMNS].iter_mut().zip(row) {
+        *place = shown(byte);
     }
-    text[82] = 10;
+    text[COLUMNS + 2] = b'\n';
     io::writer(rt).write_all(&text)
 }
 
 fn shown(byte: u8) -> u8 {
-    if (byte < 32) | (126 < byte) {
-        return 46;
+    if matches!(byte, b' '..=b'~') {
+        return byte;
     }
-    byte
+    b'.'
 }

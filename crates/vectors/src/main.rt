@@ -2,8 +2,6 @@
 // and its digest in hexadecimal. The file `stdout` beside src/ has what other people's code makes of the same messages.
 #![tactic(auto)]
 
-ghost use Rattle.std.specs.Prelude.{◌≤◌};
-
 use std::io;
 use std::io::Write;
 
@@ -24,64 +22,42 @@ fn published(rt: &HostRuntime) -> io::Result<()> {
 }
 
 fn million(rt: &HostRuntime) -> io::Result<()> {
-    let message = [97u8; 1000000];
+    let message = [b'a'; 1000000];
     line(rt, b"1000000 times a", &message)
 }
 
 // Lengths on both sides of every place where the padding changes its shape, and two long ones.
+const LENGTHS: [usize; 17] = [
+    0, 1, 54, 55, 56, 57, 63, 64, 65, 111, 112, 119, 120, 127, 128, 1000, 65536,
+];
+
 fn patterns(rt: &HostRuntime) -> io::Result<()> {
     let mut bytes = [0u8; 65536];
     fill(&mut bytes);
-    pattern(rt, &bytes, 0)?;
-    pattern(rt, &bytes, 1)?;
-    pattern(rt, &bytes, 54)?;
-    pattern(rt, &bytes, 55)?;
-    pattern(rt, &bytes, 56)?;
-    pattern(rt, &bytes, 57)?;
-    pattern(rt, &bytes, 63)?;
-    pattern(rt, &bytes, 64)?;
-    pattern(rt, &bytes, 65)?;
-    pattern(rt, &bytes, 111)?;
-    pattern(rt, &bytes, 112)?;
-    pattern(rt, &bytes, 119)?;
-    pattern(rt, &bytes, 120)?;
-    pattern(rt, &bytes, 127)?;
-    pattern(rt, &bytes, 128)?;
-    pattern(rt, &bytes, 1000)?;
-    pattern(rt, &bytes, 65536)
+    for n in LENGTHS {
+        pattern(rt, &bytes, n)?;
+    }
+    Ok(())
 }
 
 // Byte i becomes (i * 167 + 13) mod 251. 251 is a prime, so two blocks of 64 bytes are alike only 251 blocks apart.
 fn fill(bytes: &mut [u8; 65536]) {
-    for i in 0..65536 {
-        bytes[i] = ((i * 167 + 13) % 251) as u8;
+    for (i, byte) in bytes.iter_mut().enumerate() {
+        *byte = ((i * 167 + 13) % 251) as u8;
     }
 }
 
-// The line of the first n bytes of the pattern.
-fn pattern(rt: &HostRuntime, bytes: &[u8; 65536], n: usize) -> io::Result<()>
-    requires { n ≤ 65536 }
-{
+// The line of the first n bytes of the pattern, which has as many.
+fn pattern(rt: &HostRuntime, bytes: &[u8], n: usize) -> io::Result<()> {
     print!(rt; "pattern of length {n}")?;
-    let all: &[u8] = bytes;
-    line(rt, b"", &all[..n])
+    line(rt, b"", &bytes[..n.min(bytes.len())])
 }
 
 fn line(rt: &HostRuntime, what: &[u8], message: &[u8]) -> io::Result<()> {
     io::writer(rt).write_all(what)?;
     io::writer(rt).write_all(b": ")?;
-    hex(rt, sha256::digest(message))?;
-    io::writer(rt).write_all(b"\n")
-}
-
-fn hex(rt: &HostRuntime, digest: [u8; 32]) -> io::Result<()> {
-    for i in 0..32 {
-        let byte = wide(digest[i]);
+    for byte in sha256::digest(message) {
         print!(rt; "{byte:02x}")?;
     }
-    Ok(())
-}
-
-fn wide(byte: u8) -> u64 {
-    byte as u64
+    println!(rt; "")
 }
