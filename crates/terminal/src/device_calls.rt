@@ -1,4 +1,4 @@
-// The calls on the caller's keyboard and screen.
+//! The calls on the caller's keyboard and screen.
 ghost use Rattle.std.specs.Prelude.{◌≡◌};
 ghost use Rattle.terminal.specs.Terminal.{outcome, answer, with_partition};
 ghost use Rattle.terminal.specs.DeviceCalls.{read_next, read_random, write_next, write_random};
@@ -8,15 +8,15 @@ use console::{Reply, next, random};
 
 impl Terminal {
     // The answer, with the calling partition as the call leaves it.
-    fn replied(mut self, partition: u32, reply: Reply) -> Answer
+    fn replied(self, partition: u32, reply: Reply) -> Answer
         ensures { result ≡ answer reply.number reply.count (with_partition partition reply.part self) }
     {
-        let part = reply.part;
-        let next = self.with_partition(partition, part);
-        next.answer(reply.number, reply.count)
+        self.with_partition(partition, reply.part)
+            .answer(reply.number, reply.count)
     }
 
-    // Takes the oldest keys out of the keyboard's queue into the buffer.
+    /// Takes the oldest keys out of the keyboard's queue into the buffer.
+    #[tactic(auto, unfolding(crate::specs::DeviceCalls::read_next, crate::specs::DeviceCalls::replied, crate::specs::Terminal::differs))]
     pub fn read_next(
         mut self,
         partition: u32,
@@ -33,7 +33,8 @@ impl Terminal {
         self.replied(partition, reply)
     }
 
-    // Copies cells of the screen into the buffer.
+    /// Copies cells of the screen into the buffer.
+    #[tactic(auto, unfolding(crate::specs::DeviceCalls::read_random, crate::specs::DeviceCalls::replied, crate::specs::Terminal::differs))]
     pub fn read_random(
         mut self,
         partition: u32,
@@ -54,7 +55,8 @@ impl Terminal {
         self.replied(partition, reply)
     }
 
-    // Puts bytes on the screen from the cursor on.
+    /// Puts bytes on the screen from the cursor on.
+    #[tactic(auto, unfolding(crate::specs::DeviceCalls::write_next, crate::specs::DeviceCalls::replied, crate::specs::Terminal::differs))]
     pub fn write_next(
         mut self,
         partition: u32,
@@ -72,7 +74,8 @@ impl Terminal {
         self.replied(partition, reply)
     }
 
-    // Copies bytes over cells of the screen.
+    /// Copies bytes over cells of the screen.
+    #[tactic(auto, unfolding(crate::specs::DeviceCalls::write_random, crate::specs::DeviceCalls::replied, crate::specs::Terminal::differs))]
     pub fn write_random(
         mut self,
         partition: u32,

@@ -1,22 +1,23 @@
-// The calls on segments, and the configuration database. The permission table comes by value beside the terminal.
+//! The calls on segments, and the configuration database. The permission table comes by value beside the terminal.
 ghost use Rattle.std.specs.Prelude.{◌≡◌};
-ghost use Rattle.memory.specs.Rights.{reach};
+ghost use Rattle.memory.specs.Rights.{reach, reached};
 ghost use Rattle.terminal.specs.Terminal.{outcome};
 ghost use Rattle.terminal.specs.MemoryCalls.{load, store, flush, configuration};
 
 use super::{Answer, Terminal};
 use memory::{Reach, rights};
 
+// Stays: the permission table by value (docs/DECISIONS.md, "Forms that stay").
 impl Terminal {
     // What a selector gives the calling partition.
-    fn reach(self, permissions: [[u8; 8]; 32], partition: u32, selector: u32) -> Reach
-        ensures { result ≡ reach self.plan permissions partition selector }
+    fn reach(&self, permissions: &[[u8; 8]; 32], partition: u32, selector: u32) -> Reach
+        ensures { reached result ≡ reach self.now.plan permissions.now partition selector }
     {
-        let plan = self.plan;
-        rights::reach(plan, permissions, partition, selector)
+        rights::reach(&self.plan, permissions, partition, selector)
     }
 
-    // Copies bytes of a segment into the buffer.
+    /// Copies bytes of a segment into the buffer.
+    #[tactic(auto, unfolding(crate::specs::MemoryCalls::load, crate::specs::Terminal::unmoved, crate::specs::Terminal::differs))]
     pub fn load(
         mut self,
         permissions: [[u8; 8]; 32],
@@ -29,12 +30,13 @@ impl Terminal {
         ensures { outcome result buffer.new ≡ load self permissions partition selector offset arena.now buffer.old }
     {
         let n = self.guard(arena.len() != self.plan.kept.arena, partition);
-        let reach = self.reach(permissions, partition, selector);
+        let reach = self.reach(&permissions, partition, selector);
         let number = memory::load(n, reach, offset, arena, buffer);
         self.answer(number, 0)
     }
 
-    // Copies bytes over those of a segment.
+    /// Copies bytes over those of a segment.
+    #[tactic(auto, unfolding(crate::specs::MemoryCalls::store, crate::specs::Terminal::unmoved, crate::specs::Terminal::differs))]
     pub fn store(
         mut self,
         permissions: [[u8; 8]; 32],
@@ -47,12 +49,13 @@ impl Terminal {
         ensures { outcome result arena.new ≡ store self permissions partition selector offset bytes.now arena.old }
     {
         let n = self.guard(arena.len() != self.plan.kept.arena, partition);
-        let reach = self.reach(permissions, partition, selector);
+        let reach = self.reach(&permissions, partition, selector);
         let number = memory::store(n, reach, offset, bytes, arena);
         self.answer(number, 0)
     }
 
-    // Writes a dseg back over its file; the store takes the first `taken` bytes.
+    /// Writes a dseg back over its file; the store takes the first `taken` bytes.
+    #[tactic(auto, unfolding(crate::specs::MemoryCalls::flush, crate::specs::Terminal::unmoved, crate::specs::Terminal::differs))]
     pub fn flush(
         mut self,
         permissions: [[u8; 8]; 32],
@@ -66,15 +69,16 @@ impl Terminal {
     {
         let kept = self.plan.kept;
         let n = self.guard(
-            (store.len() != kept.store) | (arena.len() != kept.arena),
+            store.len() != kept.store || arena.len() != kept.arena,
             partition,
         );
-        let reach = self.reach(permissions, partition, selector);
+        let reach = self.reach(&permissions, partition, selector);
         let number = memory::flush(n, reach, taken, arena, store);
         self.answer(number, 0)
     }
 
-    // Writes the configuration database into the buffer.
+    /// Writes the configuration database into the buffer.
+    #[tactic(auto, unfolding(crate::specs::MemoryCalls::configuration, crate::specs::Terminal::unmoved, crate::specs::Terminal::differs))]
     pub fn configuration(
         mut self,
         permissions: [[u8; 8]; 32],
@@ -85,8 +89,7 @@ impl Terminal {
         ensures { outcome result buffer.new ≡ configuration self permissions partition store.now buffer.old }
     {
         let n = self.guard(store.len() != self.plan.kept.store, partition);
-        let plan = self.plan;
-        let number = database::configuration(n, plan, permissions, partition, store, buffer);
+        let number = database::configuration(n, &self.plan, &permissions, partition, store, buffer);
         self.answer(number, 0)
     }
 }

@@ -1,4 +1,4 @@
-// The calls that stop the terminal.
+//! The calls that stop the terminal.
 ghost use Rattle.std.specs.Prelude.{◌≡◌};
 ghost use Rattle.terminal.specs.Terminal.{outcome};
 ghost use Rattle.terminal.specs.StopCalls.{shutdown, switched_off, powerdown};
@@ -7,7 +7,8 @@ use super::{Answer, Terminal};
 use console::halt;
 
 impl Terminal {
-    // Shows a message and the halt notice on the caller's screen, and stops.
+    /// Shows a message and the halt notice on the caller's screen, and stops.
+    #[tactic(auto, unfolding(crate::specs::StopCalls::shutdown, crate::specs::StopCalls::stopped, crate::specs::Terminal::with_state, crate::specs::Terminal::differs, checks::specs::Settle::settle))]
     pub fn shutdown(mut self, partition: u32, message: &[u8], screens: &mut [u8]) -> Answer
         ensures { outcome result screens.new ≡ shutdown self partition message.now screens.old }
     {
@@ -16,16 +17,16 @@ impl Terminal {
             return self.answer(n, 0);
         }
         let part = halt::halt(self.partition(partition), partition, message, screens);
-        let state = self.state;
-        let next = self.with_state(
-            state
-                .with_part(partition as usize, part)
-                .with_stop(state.off),
-        );
-        next.answer(0, 0)
+        let off = self.state.off;
+        self.state = self
+            .state
+            .with_part(partition as usize, part)
+            .with_stop(off);
+        self.answer(0, 0)
     }
 
     // Stops and marks the terminal as off; the screens stay.
+    #[tactic(auto, unfolding(crate::specs::StopCalls::switched_off, crate::specs::Terminal::with_state, crate::specs::Terminal::differs, checks::specs::Settle::settle))]
     fn switch_off(mut self, partition: u32, screens: &[u8]) -> Answer
         ensures { outcome result screens.now ≡ switched_off self partition screens.now }
     {
@@ -33,12 +34,12 @@ impl Terminal {
         if n != 0 {
             return self.answer(n, 0);
         }
-        let state = self.state;
-        let next = self.with_state(state.with_stop(true));
-        next.answer(0, 0)
+        self.state = self.state.with_stop(true);
+        self.answer(0, 0)
     }
 
-    // Switches the power off where a call can do that, and else shuts down with no message.
+    /// Switches the power off where a call can do that, and else shuts down with no message.
+    #[tactic(auto, unfolding(crate::specs::StopCalls::powerdown))]
     pub fn powerdown(mut self, partition: u32, screens: &mut [u8]) -> Answer
         ensures { outcome result screens.new ≡ powerdown self partition screens.old }
     {

@@ -46,13 +46,13 @@ put_back t p n r pw taken number a e b d store tables file table from to start e
 pub returns : goal.returns
 unfolding set_password differs
 returns c = let args = c.args in
-    let seat = c.seat-seat.ensures in
+    let seat = c.seat.ensures in
     let own = seat_at args.self.plan args.partition in
-    let from : c.least-from.result ≡ min own.file.place (length args.store.now) = rw (← seat) c.least-from.ensures in
-    let to : c.sum-to.result ≡ min (c.least-from.result + own.file.length) (length args.store.now) = rw (← seat) c.sum-to.ensures in
-    let start : c.least-start.result ≡ min own.table.place (length args.tables.now) = rw (← seat) c.least-start.ensures in
-    let end : c.sum-end.result ≡ min (c.least-start.result + own.table.length) (length args.tables.now) = rw (← seat) c.sum-end.ensures in
+    let from : c.min-from.result ≡ min own.file.place (length args.store.now) = rw (← seat) c.min-from.ensures in
+    let to : c.sum-to.result ≡ min (c.min-from.result + own.file.length) (length args.store.now) = rw (← seat) c.sum-to.ensures in
+    let start : c.min-start.result ≡ min own.table.place (length args.tables.now) = rw (← seat) c.min-start.ensures in
+    let end : c.sum-end.result ≡ min (c.min-start.result + own.table.length) (length args.tables.now) = rw (← seat) c.sum-end.ensures in
     rw (c.answer.ensures, ← c.tables_wrong-wrong.ensures, ← c.guard-n.ensures, ← c.login_of-record.ensures)
     (put_back args.self args.partition c.guard-n.result c.login_of-record.result args.password.now args.taken c.set_password-number.result
-    c.least-from.result c.sum-to.result c.least-start.result c.sum-end.result args.store.now args.tables.now c.set_password-number.new.file c.set_password-number.new.table
+    c.min-from.result c.sum-to.result c.min-start.result c.sum-end.result args.store.now args.tables.now c.set_password-number.new.file c.set_password-number.new.table
     from to start end c.set_password-number.ensures)
