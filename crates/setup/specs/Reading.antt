@@ -1,4 +1,4 @@
--- Document 01, "Refusals at start": "404 to 413 are tried in that order on one statement before the next is read; 414 .. after the last".
+-- Refusals at start: the checks on one statement are tried in their order before the next is read; 414 comes behind the last.
 use Rattle.std.specs.Prelude.{Bool, cond, List, [], ◌++◌, map, ℕ, zero, suc, eqb, leb, length}
 use Rattle.checks.specs.Checks.{Check, after}
 use Rattle.octets.specs.declared.span.Span.{Span}
@@ -9,8 +9,7 @@ use Rattle.statements.specs.declared.Statement.{Statement}
 use Rattle.statements.specs.declared.Statement.TheVariants.{Code, Dseg, Mseg, Malformed}
 use Rattle.setup.specs.declared.Segment.{Segment}
 use Rattle.setup.specs.declared.Setup.{Setup}
-use Rattle.setup.specs.declared.Judged.{Judged}
-use Rattle.setup.specs.declared.Outcome.{Outcome}
+use Rattle.setup.specs.Outcomes.{Judged, Outcome}
 use Rattle.octets.specs.Spans.{no_span, bytes_of}
 use Rattle.setup.specs.Setup.{begun, permission_row, with_code, with_dseg, with_mseg}
 use Rattle.setup.specs.Rules.{code_rank, dseg_rank, mseg_rank, code_checks, dseg_checks, mseg_checks, code_missing}
@@ -29,13 +28,15 @@ refused_at text p number = record { number = number; line = line_of text p; next
 unfoldable pub settled : List ℕ → ℕ → List Check → Judged → Judged
 settled text p checks good = cond (eqb (after 0 checks) 0) good (refused_at text p (after 0 checks))
 
+abbrev pub segment : Span → ℕ → Grants → Segment
+segment path size grants =
+    record { path = path; size = size; host = grants.host; permissions = permission_row grants.permissions.count grants.permissions.bits }
+
 abbrev pub dseg : Span → Grants → Segment
-dseg path grants =
-    record { path = path; size = 0; host = grants.host; permissions = permission_row grants.permissions.count grants.permissions.bits }
+dseg path grants = segment path 0 grants
 
 abbrev pub mseg : ℕ → Grants → Segment
-mseg size grants =
-    record { path = no_span; size = size; host = grants.host; permissions = permission_row grants.permissions.count grants.permissions.bits }
+mseg size grants = segment no_span size grants
 
 abbrev pub refusal : ℕ → ℕ → Outcome
 refusal number line = record { number = number; line = line; setup = no_setup }

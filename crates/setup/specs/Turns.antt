@@ -2,16 +2,19 @@
 use Rattle.std.specs.Prelude.{Bool, List, ◌≡◌, ℕ, suc, ◌-◌, ◌≤◌, ◌<◌, leb, length}
 use Rattle.std.proofs.Common.{sym, ap, ◌∙◌, arith, eq-eqb, ne_eqb, le-leb, leb-false}
 use Rattle.std.proofs.lemmas.Bool.{lt-leb}
-use Rattle.checks.specs.Checks.{after}
+use Rattle.checks.specs.Checks.{Check, after}
+use Rattle.checks.specs.Refusals.{number_of}
+use Rattle.checks.specs.declared.refusal.Refusal.{Refusal}
 use Rattle.checks.specs.Laws.{not-due, second-not-due}
 use Rattle.text.specs.Gaps.{token_place}
 use Rattle.statements.specs.Statements.{statement_at, kind_at, statement_of}
 use Rattle.statements.specs.Kinds.{statement_of_kind}
 use Rattle.statements.specs.declared.Kind.{Kind}
 use Rattle.setup.specs.declared.Setup.{Setup}
-use Rattle.setup.specs.declared.Judged.{Judged}
+use Rattle.setup.specs.Outcomes.{Judged}
+use Rattle.setup.specs.Views.{some_number}
 use Rattle.setup.specs.Rules.{dseg_checks, mseg_checks}
-use Rattle.setup.specs.Reading.{judged, judged_at, refusal, ended, read_from}
+use Rattle.setup.specs.Reading.{settled, refused_at, judged, judged_at, refusal, ended, read_from}
 
 pub of_kind : (text : List ℕ) (at : ℕ) (k : Kind) → kind_at text at ≡ k → statement_at text at ≡ statement_of text k
 of_kind text at k e = statement_of_kind text at ∙ ap (statement_of text) e
@@ -27,6 +30,16 @@ pub mseg-room : (s : Setup) (index size host count bits n : ℕ)
 unfolding mseg_checks
 mseg-room s index size host count bits n e z =
     leb-false 16 s.msegcount (not-due 0 405 (leb 16 s.msegcount) _ (sym e ∙ z) (λ q. omega arith))
+
+-- a statement refused, and one accepted
+module _ (text : List ℕ) (p : ℕ) (checks : List Check) (good : Judged) where
+  pub settled_refused : (r : Refusal) → number_of r ≡ after 0 checks → refused_at text p (number_of r) ≡ settled text p checks good
+  unfolding settled
+  settled_refused r e = rw (← e, some_number r)
+
+  pub settled_accepted : 0 ≡ after 0 checks → good ≡ settled text p checks good
+  unfolding settled
+  settled_accepted e = rw (← e)
 
 module _ (look : Bool) (image text : List ℕ) (left at rank : ℕ) (s : Setup) where
   pub turn_out : left ≤ 0 → read_from look image text left at rank s ≡ refusal 404 0

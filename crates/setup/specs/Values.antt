@@ -1,7 +1,10 @@
 -- Laws of the set-up as a value: what stands behind its rows, its permission table, paths looked for one by one, permissions in a number.
-use Rattle.std.specs.Prelude.{Bool, true, false, ◌||◌, not, List, [], ◌∷◌, ◌++◌, map, ◌≡◌, refl, ℕ, zero, suc, ◌+◌, ◌-◌, ◌*◌, ◌/◌, ◌%◌, ◌^◌, ◌≤◌, ◌<◌, take, drop, get_or, set, replicate, length}
-use Rattle.std.proofs.Common.{append_assoc, append-nil, ◌∙◌, le_of_suc-le-suc, not-suc-le-zero, pow-suc, add-one, lt-ltb, le-ltb, drop_of_length-le, take-suc, take-suc-set, take_all, sym, lt_of_lt_of_le, arith, length-append, drop-cons, get_or-append-add}
-use Rattle.std.proofs.Math.Bool.{and-false, or-false, or_assoc}
+use Rattle.std.specs.List.{list_any, range_with_len}
+use Rattle.std.specs.Prelude.{◌&&◌, eqb, Bool, true, false, ◌||◌, not, List, [], ◌∷◌, ◌++◌, map, ◌≡◌, refl, ℕ, zero, suc, ◌+◌, ◌-◌, ◌*◌, ◌/◌, ◌%◌, ◌^◌, ◌≤◌, ◌<◌, take, drop, get_or, set, replicate, length}
+use Rattle.std.proofs.Common.{add-zero, zero-add, ap, append_assoc, append-nil, ◌∙◌, le_of_suc-le-suc, not-suc-le-zero, pow-suc, add-one, lt-ltb, le-ltb, drop_of_length-le, take-suc, take-suc-set, take_all, sym, lt_of_lt_of_le, arith, length-append, drop-cons, get_or-append-add}
+use Rattle.std.proofs.lemmas.List.Folds.{list_any-append, list_any_more}
+use Rattle.std.proofs.Math.Decide.{dec_le}
+use Rattle.std.proofs.Math.Bool.{or_comm, and-false, or-false, or_assoc}
 use Rattle.std.proofs.Math.ListN.{get_or-eq_default, get_or-append, get_or-map, length-map}
 use Rattle.std.proofs.Math.Nat.{pow-le-pow_right, div-eq_of_lt}
 use Rattle.std.proofs.Math.Seq.{set_out}
@@ -13,7 +16,7 @@ use Rattle.setup.specs.declared.Segment.{Segment}
 use Rattle.setup.specs.declared.Setup.{Setup}
 use Rattle.octets.specs.Spans.{no_span, bytes_of}
 use Rattle.setup.specs.Setup.{no_segment, is_active, has_code, among, paths_of, permission_of, with_code}
-use Rattle.setup.specs.Rules.{absent}
+use Rattle.setup.specs.Rules.{absent, some_writes, some_active, code_missing}
 use Rattle.setup.specs.Reading.{permission_table}
 
 -- ---- what stands behind the rows
@@ -149,3 +152,52 @@ module _ (count bits p : ℕ) where
   pub permission-near : p < count → bits / 2 ^ (2 * (count - 1 - p)) % 4 ≡ permission_of count bits p
   unfolding permission_of
   permission-near h = rw (lt-ltb p count h, four (count - 1 - p))
+
+-- ---- the library's words for a search
+
+range_more : (a n : ℕ) → range_with_len a (suc n) ≡ range_with_len a n ++ ((a + n) ∷ [])
+range_more a zero = let e : a ≡ a + 0 = omega arith in ap {B = List ℕ} (λ (b : ℕ). b ∷ []) e
+range_more a (suc n) =
+    let e : a + 1 + n ≡ a + suc n = omega arith in
+    ap (λ (l : List ℕ). a ∷ l) (range_more (a + 1) n ∙ ap {B = List ℕ} (λ (b : ℕ). range_with_len (a + 1) n ++ (b ∷ [])) e)
+
+-- of the n + 1 first numbers one passes the test: n does, or one below it
+any_more : (test : ℕ → Bool) (n : ℕ) → list_any test (range_with_len 0 (suc n)) ≡ (test n || list_any test (range_with_len 0 n))
+any_more test n =
+    ap (list_any test) (range_more 0 n)
+    ∙ list_any-append test (range_with_len 0 n) ((0 + n) ∷ [])
+    ∙ rw (or-false, zero-add) (or_comm (list_any test (range_with_len 0 n)) (test n))
+
+pub writes_any : (s : Setup) (count bits n : ℕ)
+    → list_any (λ p. is_active s p && eqb (permission_of count bits p) 2) (range_with_len 0 n) ≡ some_writes n s count bits
+unfolding some_writes
+writes_any s count bits zero = refl
+writes_any s count bits (suc n) = rw (any_more (λ p. is_active s p && eqb (permission_of count bits p) 2) n, writes_any s count bits n)
+
+pub missing_any : (s : Setup) (n : ℕ) → list_any (λ p. is_active s p && not (has_code s p)) (range_with_len 0 n) ≡ code_missing n s
+unfolding code_missing
+missing_any s zero = refl
+missing_any s (suc n) = rw (any_more (λ p. is_active s p && not (has_code s p)) n, missing_any s n)
+
+active_more : (active : List Bool) (n : ℕ) → list_any (λ flag. flag) (take (suc n) active) ≡ (get_or active n false || list_any (λ flag. flag) (take n active))
+active_more active n = go (dec_le (length active) n)
+  where
+    go : Dec (length active ≤ n) → list_any (λ flag. flag) (take (suc n) active) ≡ (get_or active n false || list_any (λ flag. flag) (take n active))
+    go (yes h) = rw (get_or-eq_default active false h, take_all (suc n) active (omega arith), take_all n active h)
+    go (no h) = rw (← add-one n, list_any_more (λ flag. flag) active n false (omega arith)) (or_comm (list_any (λ flag. flag) (take n active)) (get_or active n false))
+
+pub active_any : (active : List Bool) (n : ℕ) → list_any (λ flag. flag) (take n active) ≡ some_active n active
+unfolding some_active
+active_any active zero = refl
+active_any active (suc n) = rw (active_more active n, active_any active n)
+
+module _ (text path : List ℕ) where
+  pub codes_any : (ps : List Span) → list_any (λ p. same_bytes (bytes_of text p) path) ps ≡ among text path ps
+  unfolding among
+  codes_any [] = refl
+  codes_any (p ∷ ps) = rw (codes_any ps)
+
+  pub dsegs_any : (ds : List Segment) → list_any (λ (d : Segment). same_bytes (bytes_of text d.path) path) ds ≡ among text path (paths_of ds)
+  unfolding among paths_of
+  dsegs_any [] = refl
+  dsegs_any (d ∷ ds) = rw (dsegs_any ds)

@@ -1,187 +1,145 @@
 // One statement: read, judged, and taken into the set-up.
 ghost use Rattle.std.specs.Prelude.{◌≡◌};
-ghost use Rattle.statements.specs.Statements.{statement_at, code_at, dseg_at, mseg_at};
-ghost use Rattle.setup.specs.Reading.{refused_at, judged};
+ghost use Rattle.checks.specs.Refusals.{number_of};
+ghost use Rattle.setup.specs.Reading.{segment};
 
-use super::{Judged, Segment, Setup, Span, rules};
-use statements::{Kind, Statement};
+use super::{Refused, Segment, Setup, Span, rules};
+use checks::Refusal;
+use statements::{Grants, Kind, Statement};
 use text::gaps;
 
-// A refusal, with the line of the statement's first token, which stands at `place`.
-fn refused(number: u32, text: &[u8], place: usize) -> Judged
-    ensures { result ≡ refused_at text.now place number }
-{
-    let line = gaps::line_of(text, place);
-    let setup = super::begun(0, [false; 8]);
-    Judged {
-        number,
-        line,
-        next: 0,
-        rank: 0,
-        setup,
+// How far reading has come in the order of statements: CODE, DSEG, MSEG.
+#[derive(Clone, Copy, Debug, PartialEq, Eq, PartialOrd, Ord)]
+pub enum Rank {
+    Start,
+    Code,
+    Dseg,
+    Mseg,
+}
+
+// What reading has come to: the place behind the last statement, its rank, and the set-up with it.
+#[derive(Clone, Copy, Debug, PartialEq, Eq)]
+pub struct Progress {
+    pub next: usize,
+    pub rank: Rank,
+    pub setup: Setup,
+}
+
+// A reading: the text, the image, and whether a path has to be in the image.
+#[derive(Clone, Copy)]
+pub struct Reading<'a> {
+    pub look: bool,
+    pub image: &'a [u8],
+    pub text: &'a [u8],
+}
+
+impl<'a> Reading<'a> {
+    ghost use Rattle.statements.specs.Statements.{statement_at, code_at, dseg_at, mseg_at};
+    ghost use Rattle.setup.specs.Reading.{refused_at, judged};
+    ghost use Rattle.setup.specs.Views.{rank_of, refused_of, judged_of};
+
+    // A refusal, with the line of the statement's first token, which stands at `place`.
+    fn refused(self, refusal: Refusal, place: usize) -> Refused
+        ensures { refused_of result ≡ refused_at self.entry.text.now place (number_of refusal) }
+    {
+        Refused {
+            refusal,
+            line: gaps::line_of(self.text, place),
+        }
+    }
+
+    // A CODE statement, read from behind its word on.
+    fn code(self, place: usize, behind: usize, before: &Progress) -> Result<Progress, Refused>
+        ensures { judged_of result ≡ judged self.entry.look self.entry.image.now self.entry.text.now place (rank_of before.now.rank) before.now.setup (code_at self.entry.text.now behind) }
+    {
+        let Statement::Code {
+            partition,
+            path,
+            next,
+        } = statements::code_at(self.text, behind)
+        else {
+            return Err(self.refused(Refusal::Syntax, place));
+        };
+        let p = partition as usize;
+        if let Err(refusal) = rules::code_checked(self, before, p, path.of(self.text)) {
+            return Err(self.refused(refusal, place));
+        }
+        Ok(Progress {
+            next,
+            rank: Rank::Code,
+            setup: before.setup.with_code(p, path),
+        })
+    }
+
+    // A DSEG statement, read from behind its word on.
+    fn dseg(self, place: usize, behind: usize, before: &Progress) -> Result<Progress, Refused>
+        ensures { judged_of result ≡ judged self.entry.look self.entry.image.now self.entry.text.now place (rank_of before.now.rank) before.now.setup (dseg_at self.entry.text.now behind) }
+    {
+        let Statement::Dseg {
+            index,
+            path,
+            grants,
+            next,
+        } = statements::dseg_at(self.text, behind)
+        else {
+            return Err(self.refused(Refusal::Syntax, place));
+        };
+        let index = index as usize;
+        if let Err(refusal) = rules::dseg_checked(self, before, index, path.of(self.text), grants) {
+            return Err(self.refused(refusal, place));
+        }
+        Ok(Progress {
+            next,
+            rank: Rank::Dseg,
+            setup: before.setup.with_dseg(segment(path, 0, grants)),
+        })
+    }
+
+    // An MSEG statement, read from behind its word on.
+    fn mseg(self, place: usize, behind: usize, before: &Progress) -> Result<Progress, Refused>
+        ensures { judged_of result ≡ judged self.entry.look self.entry.image.now self.entry.text.now place (rank_of before.now.rank) before.now.setup (mseg_at self.entry.text.now behind) }
+    {
+        let Statement::Mseg {
+            index,
+            size,
+            grants,
+            next,
+        } = statements::mseg_at(self.text, behind)
+        else {
+            return Err(self.refused(Refusal::Syntax, place));
+        };
+        let index = index as usize;
+        if let Err(refusal) = rules::mseg_checked(&before.setup, index, size, grants) {
+            return Err(self.refused(refusal, place));
+        }
+        Ok(Progress {
+            next,
+            rank: Rank::Mseg,
+            setup: before.setup.with_mseg(segment(Span::NONE, size, grants)),
+        })
+    }
+
+    // The next statement, whose first token stands at `place`.
+    pub fn judge(self, place: usize, before: &Progress) -> Result<Progress, Refused>
+        ensures { judged_of result ≡ judged self.entry.look self.entry.image.now self.entry.text.now place (rank_of before.now.rank) before.now.setup (statement_at self.entry.text.now before.now.next) }
+    {
+        match statements::kind_at(self.text, before.next) {
+            Kind::Code(behind) => self.code(place, behind, before),
+            Kind::Dseg(behind) => self.dseg(place, behind, before),
+            Kind::Mseg(behind) => self.mseg(place, behind, before),
+            Kind::Other => Err(self.refused(Refusal::Syntax, place)),
+        }
     }
 }
 
-// A CODE statement, read from behind its word on.
-fn code_judged(
-    look: bool,
-    image: &[u8],
-    text: &[u8],
-    place: usize,
-    behind: usize,
-    rank: u32,
-    setup: Setup,
-) -> Judged
-    ensures { result ≡ judged look image.now text.now place rank setup (code_at text.now behind) }
+// A segment with these grants.
+fn segment(path: Span, size: u64, grants: Grants) -> Segment
+    ensures { result ≡ segment path size grants }
 {
-    let Statement::Code {
-        partition,
-        path: span,
-        next,
-    } = statements::code_at(text, behind)
-    else {
-        return refused(404, text, place);
-    };
-    let p = partition as usize;
-    let path = span.of(text);
-    let number = rules::code_refusal(look, image, rank, setup, p, path);
-    if number != 0 {
-        return refused(number, text, place);
-    }
-    let more = setup.with_code(p, span);
-    Judged {
-        number: 0,
-        line: 0,
-        next,
-        rank: 1,
-        setup: more,
-    }
-}
-
-// A DSEG statement, read from behind its word on.
-fn dseg_judged(
-    look: bool,
-    image: &[u8],
-    text: &[u8],
-    place: usize,
-    behind: usize,
-    rank: u32,
-    setup: Setup,
-) -> Judged
-    ensures { result ≡ judged look image.now text.now place rank setup (dseg_at text.now behind) }
-{
-    let Statement::Dseg {
-        index,
-        path: span,
-        grants,
-        next,
-    } = statements::dseg_at(text, behind)
-    else {
-        return refused(404, text, place);
-    };
-    let i = index as usize;
-    let h = grants.host as usize;
-    let count = grants.permissions.count;
-    let permissions = grants.permissions.bits;
-    let path = span.of(text);
-    let number = rules::dseg_refusal(
-        look,
-        image,
-        text,
-        rank,
-        setup,
-        i,
+    Segment {
         path,
-        h,
-        count,
-        permissions,
-    );
-    if number != 0 {
-        return refused(number, text, place);
-    }
-    let row = rules::permission_row(count, permissions);
-    let segment = Segment {
-        path: span,
-        size: 0,
-        host: h,
-        permissions: row,
-    };
-    let more = setup.with_dseg(segment);
-    Judged {
-        number: 0,
-        line: 0,
-        next,
-        rank: 2,
-        setup: more,
-    }
-}
-
-// An MSEG statement, read from behind its word on.
-fn mseg_judged(
-    look: bool,
-    image: &[u8],
-    text: &[u8],
-    place: usize,
-    behind: usize,
-    rank: u32,
-    setup: Setup,
-) -> Judged
-    ensures { result ≡ judged look image.now text.now place rank setup (mseg_at text.now behind) }
-{
-    let Statement::Mseg {
-        index,
         size,
-        grants,
-        next,
-    } = statements::mseg_at(text, behind)
-    else {
-        return refused(404, text, place);
-    };
-    let i = index as usize;
-    let h = grants.host as usize;
-    let count = grants.permissions.count;
-    let permissions = grants.permissions.bits;
-    let number = rules::mseg_refusal(setup, i, size, h, count, permissions);
-    if number != 0 {
-        return refused(number, text, place);
-    }
-    let none = Span {
-        place: 0,
-        length: 0,
-    };
-    let row = rules::permission_row(count, permissions);
-    let segment = Segment {
-        path: none,
-        size,
-        host: h,
-        permissions: row,
-    };
-    let more = setup.with_mseg(segment);
-    Judged {
-        number: 0,
-        line: 0,
-        next,
-        rank: 3,
-        setup: more,
-    }
-}
-
-// The statement at place `at`, whose first token stands at `place`.
-pub fn judge(
-    look: bool,
-    image: &[u8],
-    text: &[u8],
-    place: usize,
-    at: usize,
-    rank: u32,
-    setup: Setup,
-) -> Judged
-    ensures { result ≡ judged look image.now text.now place rank setup (statement_at text.now at) }
-{
-    match statements::kind_at(text, at) {
-        Kind::Code(behind) => code_judged(look, image, text, place, behind, rank, setup),
-        Kind::Dseg(behind) => dseg_judged(look, image, text, place, behind, rank, setup),
-        Kind::Mseg(behind) => mseg_judged(look, image, text, place, behind, rank, setup),
-        Kind::Other => refused(404, text, place),
+        host: grants.host as usize,
+        permissions: rules::permission_row(grants.permissions),
     }
 }

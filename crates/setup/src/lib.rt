@@ -1,23 +1,31 @@
-// The set-up that a text describes (document 01, "Set-up text" and "Refusals at start"). It does not know the terminal.
-//
-// No public function asks anything of its arguments: every text, every count of partitions and every set-up has its answer.
+//! The set-up that a text describes, and what is refused in it at start. It does not know the terminal.
+//!
+//! No public function asks anything of its arguments: every text, every count of partitions and every set-up has its answer.
 #![tactic(auto)]
 
-use octets::parts;
+use checks::Refusal;
 pub use octets::span::Span;
 use text::gaps;
 
 mod judging;
 mod rules;
 
-ghost use Rattle.std.specs.Prelude.{◌≡◌, false, ◌++◌, ◌<◌, ◌≤◌, ◌-◌, get_or, replicate, take};
+ghost use Rattle.std.specs.Prelude.{◌≡◌, false, ◌++◌, ◌+◌, ◌<◌, ◌≤◌, ◌-◌, get_or, replicate, set, take};
+ghost use Rattle.checks.specs.Refusals.{answer};
 ghost use Rattle.setup.specs.Setup.{begun, is_active, has_code, with_code, with_dseg, with_mseg};
 ghost use Rattle.setup.specs.Rules.{limits};
-ghost use Rattle.setup.specs.Reading.{refusal, ended, read, permission_table};
+ghost use Rattle.setup.specs.Reading.{ended, read, permission_table};
+ghost use Rattle.setup.specs.Views.{outcome_of};
 
-// A dseg (with a path, and size 0) or an mseg (with a size, and no path): its host, and the permission of each partition: 0 NA, 1 RO,
-// 2 RW, and 0 behind the last partition.
-#[derive(Clone, Copy)]
+// The longest text, in bytes.
+const LONGEST: usize = 16_384;
+
+// Forty statements can be accepted: 8 CODE, 16 DSEG and 16 MSEG. A forty-first is refused by its checks.
+const MOST_STATEMENTS: usize = 41;
+
+/// A dseg (with a path, and size 0) or an mseg (with a size, and no path): its host, and the permission of each partition: 0 NA, 1 RO,
+/// 2 RW, and 0 behind the last partition.
+#[derive(Clone, Copy, Debug, PartialEq, Eq)]
 pub struct Segment {
     pub path: Span,
     pub size: u64,
@@ -25,9 +33,19 @@ pub struct Segment {
     pub permissions: [u8; 8],
 }
 
-// Partitions and which of them are active; the CODE path of each; dsegs and msegs and how many there are. What is not there is 0,
-// so that equal set-ups are equal structs.
-#[derive(Clone, Copy)]
+impl Segment {
+    // What stands behind the last segment.
+    const NONE: Segment = Segment {
+        path: Span::NONE,
+        size: 0,
+        host: 0,
+        permissions: [0; 8],
+    };
+}
+
+/// Partitions and which of them are active; the CODE path of each; dsegs and msegs and how many there are. What is not there is 0,
+/// so that equal set-ups are equal structs.
+#[derive(Clone, Copy, Debug, PartialEq, Eq)]
 pub struct Setup {
     pub partitions: usize,
     pub active: [bool; 8],
@@ -38,47 +56,38 @@ pub struct Setup {
     pub msegcount: usize,
 }
 
-// What reading one statement gives: 0, the place behind it, its rank and the set-up with it; or a refusal's number and line, and an
-// empty set-up.
-#[derive(Clone, Copy)]
-pub struct Judged {
-    pub number: u32,
+/// Why a text is refused, and the line of the statement, counted from 1; 0 means no line.
+#[derive(Clone, Copy, Debug, PartialEq, Eq)]
+pub struct Refused {
+    pub refusal: Refusal,
     pub line: usize,
-    pub next: usize,
-    pub rank: u32,
-    pub setup: Setup,
 }
 
-// What reading a text gives: 0 and the set-up, or a refusal's number and line and an empty set-up.
-#[derive(Clone, Copy)]
-pub struct Outcome {
-    pub number: u32,
-    pub line: usize,
-    pub setup: Setup,
+// A segment more in a row.
+fn push(row: &mut [Segment; 16], count: &mut usize, segment: Segment)
+    requires { count.old < 16 }
+    ensures row_after { row.new ≡ set row.old count.old segment }
+    ensures count_after { count.new ≡ count.old + 1 }
+{
+    row[*count] = segment;
+    *count += 1;
 }
 
 impl Setup {
-    // Partition p is an active one.
+    /// Partition p is an active one.
+    #[tactic(auto, unfolding(crate::specs::Setup::is_active))]
     pub fn is_active(self, p: usize) -> bool
         ensures { result ≡ is_active self p }
     {
-        let active = self.active;
-        if p < 8 {
-            return (p < self.partitions) & active[p];
-        }
-        false
+        p < self.partitions && self.active.get(p).is_some_and(|active| *active)
     }
 
-    // Partition p has a CODE statement.
+    /// Partition p has a CODE statement.
+    #[tactic(auto, unfolding(crate::specs::Setup::has_code))]
     pub fn has_code(self, p: usize) -> bool
         ensures { result ≡ has_code self p }
     {
-        let code = self.code;
-        if p < 8 {
-            let span = code[p];
-            return span.length != 0;
-        }
-        false
+        self.code.get(p).is_some_and(|path| path.length != 0)
     }
 
     // The set-up with the CODE statement of partition p.
@@ -92,55 +101,46 @@ impl Setup {
     }
 
     // The set-up with one dseg more.
+    #[tactic(auto, unfolding(crate::specs::Setup::with_dseg))]
     fn with_dseg(mut self, segment: Segment) -> Self
         requires { self.dsegcount < 16 }
         ensures { result ≡ with_dseg segment self }
     {
-        let i = self.dsegcount;
-        self.dsegs[i] = segment;
-        self.dsegcount = i + 1;
+        push(&mut self.dsegs, &mut self.dsegcount, segment);
         self
     }
 
     // The set-up with one mseg more.
+    #[tactic(auto, unfolding(crate::specs::Setup::with_mseg))]
     fn with_mseg(mut self, segment: Segment) -> Self
         requires { self.msegcount < 16 }
         ensures { result ≡ with_mseg segment self }
     {
-        let i = self.msegcount;
-        self.msegs[i] = segment;
-        self.msegcount = i + 1;
+        push(&mut self.msegs, &mut self.msegcount, segment);
         self
     }
 
     // Row i of the permission table: that of dseg i, of mseg i - 16 from row 16 on, and nothing behind row 31.
-    fn row(self, i: usize) -> [u8; 8]
-        ensures { result ≡ get_or (permission_table self) i (replicate 8 0) }
+    fn row(&self, i: usize) -> [u8; 8]
+        ensures { result ≡ get_or (permission_table self.now) i (replicate 8 0) }
     {
-        let dsegs = self.dsegs;
-        let msegs = self.msegs;
         if i < 16 {
-            let dseg = dsegs[i];
-            return dseg.permissions;
+            return self.dsegs[i].permissions;
         }
         if i < 32 {
-            let mseg = msegs[i - 16];
-            return mseg.permissions;
+            return self.msegs[i - 16].permissions;
         }
-        [0u8; 8]
+        [0; 8]
     }
 }
 
-// The permissions of every segment: row i for dseg i, row 16 + i for mseg i.
+/// The permissions of every segment: row i for dseg i, row 16 + i for mseg i.
 pub fn permission_table(setup: Setup) -> [[u8; 8]; 32]
     ensures { result ≡ permission_table setup }
 {
     let mut table = [[0u8; 8]; 32];
-    let mut i = 0;
-    while i < 32 {
-        let row = setup.row(i);
-        table[i] = row;
-        i += 1;
+    for i in 0..32 {
+        table[i] = setup.row(i);
     }
     table
 }
@@ -151,101 +151,84 @@ fn flags(n: usize, active: [bool; 8]) -> [bool; 8]
     ensures { result ≡ take n active ++ replicate (8 - n) false }
 {
     let mut kept = active;
-    let mut i = n;
-    while i < 8 {
-        kept[i] = false;
-        i += 1;
-    }
+    kept[n..].fill(false);
     kept
 }
 
 // The set-up before the first statement.
+#[tactic(auto, unfolding(crate::specs::Setup::begun))]
 fn begun(count: u32, active: [bool; 8]) -> Setup
     ensures { result ≡ begun count active }
 {
-    let n = parts::least(count as usize, 8);
-    let kept = flags(n, active);
-    let none = Span {
-        place: 0,
-        length: 0,
-    };
-    let code = [none; 8];
-    let row = [0u8; 8];
-    let segment = Segment {
-        path: none,
-        size: 0,
-        host: 0,
-        permissions: row,
-    };
-    let dsegs = [segment; 16];
-    let msegs = [segment; 16];
+    let partitions = count.min(8) as usize;
     Setup {
-        partitions: n,
-        active: kept,
-        code,
-        dsegs,
+        partitions,
+        active: flags(partitions, active),
+        code: [Span::NONE; 8],
+        dsegs: [Segment::NONE; 16],
         dsegcount: 0,
-        msegs,
+        msegs: [Segment::NONE; 16],
         msegcount: 0,
     }
 }
 
-// What is refused before the text is looked at: 401 or 402.
-pub fn limits(count: u32, active: [bool; 8], bytes: usize) -> u32
-    ensures { result ≡ limits count active bytes }
+/// What is refused before the text is looked at: 401 or 402.
+#[tactic(auto, unfolding(crate::specs::Rules::limits, checks::specs::Checks::after, checks::specs::Checks::refused))]
+pub fn limits(count: u32, active: [bool; 8], bytes: usize) -> Result<(), Refusal>
+    ensures { answer result ≡ limits count active bytes }
 {
-    let n = checks::refuse(0, rules::bad_partitions(count, active), 401);
-    checks::refuse(n, 16384 < bytes, 402)
-}
-
-// A refusal, with an empty set-up.
-fn refusal(number: u32, line: usize) -> Outcome
-    ensures { result ≡ refusal number line }
-{
-    let setup = begun(0, [false; 8]);
-    Outcome {
-        number,
-        line,
-        setup,
+    if rules::bad_partitions(count, active) {
+        return Err(Refusal::Setup);
     }
+    if LONGEST < bytes {
+        return Err(Refusal::TextLong);
+    }
+    Ok(())
 }
 
 // Behind the last statement.
-fn ended(setup: Setup) -> Outcome
-    ensures { result ≡ ended setup }
+#[tactic(auto, unfolding(crate::specs::Reading::ended))]
+fn ended(setup: Setup) -> Result<Setup, Refused>
+    ensures { outcome_of result ≡ ended setup }
 {
-    if rules::code_missing(setup) {
-        return refusal(414, 0);
+    if rules::code_missing(&setup) {
+        return Err(Refused {
+            refusal: Refusal::NoCode,
+            line: 0,
+        });
     }
-    Outcome {
-        number: 0,
-        line: 0,
-        setup,
-    }
+    Ok(setup)
 }
 
-// Reads a text, statement by statement. `look`: whether a path has to be in the image.
-pub fn read(look: bool, image: &[u8], text: &[u8], count: u32, active: [bool; 8]) -> Outcome
-    ensures { result ≡ read look image.now text.now count active }
+/// Reads a text, statement by statement. `look`: whether a path has to be in the image.
+pub fn read(
+    look: bool,
+    image: &[u8],
+    text: &[u8],
+    count: u32,
+    active: [bool; 8],
+) -> Result<Setup, Refused>
+    ensures { outcome_of result ≡ read look image.now text.now count active }
 {
-    let mut setup = begun(count, active);
-    let mut at: usize = 0;
-    let mut rank: u32 = 0;
-    let mut left: usize = 41;
-    while 0 < left {
-        let place = gaps::token_place(text, at);
+    let reading = judging::Reading {
+        look,
+        image,
+        text,
+    };
+    let mut progress = judging::Progress {
+        next: 0,
+        rank: judging::Rank::Start,
+        setup: begun(count, active),
+    };
+    for _ in 0..MOST_STATEMENTS {
+        let place = gaps::token_place(text, progress.next);
         if text.len() <= place {
-            return ended(setup);
+            return ended(progress.setup);
         }
-        let judged = judging::judge(look, image, text, place, at, rank, setup);
-        if judged.number != 0 {
-            return refusal(judged.number, judged.line);
-        }
-        at = judged.next;
-        rank = judged.rank;
-        let more = judged.setup;
-        setup = more;
-        left -= 1;
+        progress = reading.judge(place, &progress)?;
     }
-    refusal(404, 0)
+    Err(Refused {
+        refusal: Refusal::Syntax,
+        line: 0,
+    })
 }

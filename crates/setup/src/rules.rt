@@ -1,43 +1,45 @@
-// The checks on one statement and on a whole text, in document 01's order ("Refusals at start").
-ghost use Rattle.std.specs.Prelude.{Bool, not, ◌&&◌, ◌||◌, ◌≡◌, ◌≤◌, eqb, leb};
+// The checks on one statement and on a whole text, in their order.
+ghost use Rattle.std.specs.Prelude.{not, ◌&&◌, ◌||◌, ◌≡◌};
 ghost use Rattle.checks.specs.Checks.{after};
+ghost use Rattle.checks.specs.Refusals.{answer};
 ghost use Rattle.octets.specs.Same.{same_bytes};
 ghost use Rattle.octets.specs.Spans.{bytes_of};
-ghost use Rattle.setup.specs.Setup.{among, paths_of, path_taken, permission_of, permission_row, is_active};
+ghost use Rattle.setup.specs.Setup.{path_taken, permission_of, permission_row};
 ghost use Rattle.setup.specs.Rules.{reserved, absent, some_writes, code_checks, dseg_checks, mseg_checks, code_missing, some_active, dseg_broken, mseg_broken, bad_partitions};
+ghost use Rattle.setup.specs.Views.{rank_of};
 
-use super::{Segment, Setup, Span};
+use super::judging::{Progress, Rank, Reading};
+use super::{Setup, Span};
+use checks::Refusal;
 use octets::{parts, search};
+use statements::{Grants, Permissions};
+
+// How many segments of a kind there may be.
+const SEGMENTS: usize = 16;
+
+// The largest mseg, in bytes.
+const LARGEST: u64 = 16_777_216;
+
+// Permissions in a segment's row.
+const NO_ACCESS: u8 = 0;
+const READ_WRITE: u8 = 2;
 
 // Some partition, of the `count` first, is active.
 fn some_active(count: u32, active: [bool; 8]) -> bool
-    requires { count ≤ 8 }
     ensures { result ≡ some_active count active }
 {
-    let n = count as usize;
-    let mut some = false;
-    let mut i = 0;
-    while i < n {
-        some = active[i] | some;
-        i += 1;
-    }
-    some
+    active.iter().take(count as usize).any(|flag| *flag)
 }
 
 // The partition count is not 1 to 8, or none is active.
 pub fn bad_partitions(count: u32, active: [bool; 8]) -> bool
     ensures { result ≡ bad_partitions count active }
 {
-    if count < 1 {
-        return true;
-    }
-    if 8 < count {
-        return true;
-    }
-    !some_active(count, active)
+    !(1..=8).contains(&count) || !some_active(count, active)
 }
 
 // The path is one of those that are kept for the terminal itself.
+#[tactic(auto, unfolding(crate::specs::Rules::reserved, octets::specs::Lists::part))]
 fn reserved(path: &[u8]) -> bool
     ensures { result ≡ reserved path.now }
 {
@@ -56,186 +58,169 @@ fn absent(look: bool, image: &[u8], path: &[u8]) -> bool
 fn same_path(text: &[u8], span: Span, path: &[u8]) -> bool
     ensures { result ≡ same_bytes (bytes_of text.now span) path.now }
 {
-    let place = span.place;
-    let length = span.length;
-    search::same(parts::piece(text, place, length), path)
-}
-
-// The path is that of a CODE statement.
-fn among_codes(text: &[u8], path: &[u8], code: [Span; 8]) -> bool
-    ensures { result ≡ among text.now path.now code }
-{
-    let mut found = false;
-    let mut i = 0;
-    while i < 8 {
-        let here = same_path(text, code[i], path);
-        found = found | here;
-        i += 1;
-    }
-    found
-}
-
-// The path is that of a dseg.
-fn among_dsegs(text: &[u8], path: &[u8], dsegs: [Segment; 16]) -> bool
-    ensures { result ≡ among text.now path.now (paths_of dsegs) }
-{
-    let mut found = false;
-    let mut i = 0;
-    while i < 16 {
-        let dseg = dsegs[i];
-        let here = same_path(text, dseg.path, path);
-        found = found | here;
-        i += 1;
-    }
-    found
+    search::same(span.of(text), path)
 }
 
 // The path equals an earlier DSEG or CODE path.
-fn path_taken(text: &[u8], path: &[u8], setup: Setup) -> bool
-    ensures { result ≡ path_taken text.now path.now setup }
+fn path_taken(text: &[u8], path: &[u8], setup: &Setup) -> bool
+    ensures { result ≡ path_taken text.now path.now setup.now }
 {
-    let code = setup.code;
-    let dsegs = setup.dsegs;
-    let of_code = among_codes(text, path, code);
-    let of_dseg = among_dsegs(text, path, dsegs);
+    let of_code = setup.code.iter().any(|code| same_path(text, *code, path));
+    let of_dseg = setup.dsegs.iter().any(|dseg| same_path(text, dseg.path, path));
     of_code | of_dseg
 }
 
-// Of `count` permissions in one number, two bits for each and the last one lowest, that of partition p.
-fn permission_of(count: usize, bits: u32, p: usize) -> u8
-    ensures { result ≡ permission_of count bits p }
+// Of these permissions, that of partition p.
+fn permission_of(permissions: Permissions, p: usize) -> u8
+    ensures { result ≡ permission_of permissions.count permissions.bits p }
 {
-    if count <= p {
+    if permissions.count <= p {
         return 0;
     }
-    let behind = count - 1 - p;
+    let behind = permissions.count - 1 - p;
     if 16 <= behind {
         return 0;
     }
-    ((bits >> (2 * behind)) % 4) as u8
+    ((permissions.bits >> (2 * behind)) % 4) as u8
 }
 
 // The permissions of the eight partitions.
-pub fn permission_row(count: usize, bits: u32) -> [u8; 8]
-    ensures { result ≡ permission_row count bits }
+#[tactic(auto, unfolding(crate::specs::Setup::permission_row))]
+pub fn permission_row(permissions: Permissions) -> [u8; 8]
+    ensures { result ≡ permission_row permissions.count permissions.bits }
 {
-    let p0 = permission_of(count, bits, 0);
-    let p1 = permission_of(count, bits, 1);
-    let p2 = permission_of(count, bits, 2);
-    let p3 = permission_of(count, bits, 3);
-    let p4 = permission_of(count, bits, 4);
-    let p5 = permission_of(count, bits, 5);
-    let p6 = permission_of(count, bits, 6);
-    let p7 = permission_of(count, bits, 7);
-    [p0, p1, p2, p3, p4, p5, p6, p7]
+    [
+        permission_of(permissions, 0),
+        permission_of(permissions, 1),
+        permission_of(permissions, 2),
+        permission_of(permissions, 3),
+        permission_of(permissions, 4),
+        permission_of(permissions, 5),
+        permission_of(permissions, 6),
+        permission_of(permissions, 7),
+    ]
 }
 
 // Some active partition has RW.
-fn some_writes(setup: Setup, count: usize, bits: u32) -> bool
-    ensures { result ≡ some_writes setup.partitions setup count bits }
+fn some_writes(setup: &Setup, permissions: Permissions) -> bool
+    ensures { result ≡ some_writes setup.now.partitions setup.now permissions.count permissions.bits }
 {
-    let mut some = false;
-    let mut i = 0;
-    while i < setup.partitions {
-        let active = setup.is_active(i);
-        let permission = permission_of(count, bits, i);
-        some = (active & (permission == 2)) | some;
-        i += 1;
-    }
-    some
+    (0..setup.partitions).any(|p| setup.is_active(p) && permission_of(permissions, p) == READ_WRITE)
 }
 
 // An active partition has no CODE.
-pub fn code_missing(setup: Setup) -> bool
-    ensures { result ≡ code_missing 8 setup }
+pub fn code_missing(setup: &Setup) -> bool
+    ensures { result ≡ code_missing 8 setup.now }
 {
-    let mut missing = false;
-    let mut i = 0;
-    while i < 8 {
-        let active = setup.is_active(i);
-        let has = setup.has_code(i);
-        missing = (active & !has) | missing;
-        i += 1;
-    }
-    missing
+    (0..8).any(|p| setup.is_active(p) && !setup.has_code(p))
 }
 
-// The first refusal that is due for CODE[p] = path, or 0.
-pub fn code_refusal(look: bool, image: &[u8], rank: u32, setup: Setup, p: usize, path: &[u8]) -> u32
-    ensures { result ≡ after 0 (code_checks look image.now rank setup p path.now) }
+// The first refusal that is due for CODE[p] = path.
+#[tactic(auto, unfolding(crate::specs::Rules::code_checks, checks::specs::Checks::after, checks::specs::Checks::refused))]
+pub fn code_checked(
+    reading: Reading<'_>,
+    before: &Progress,
+    p: usize,
+    path: &[u8],
+) -> Result<(), Refusal>
+    ensures { answer result ≡ after 0 (code_checks reading.entry.look reading.entry.image.now (rank_of before.now.rank) before.now.setup p path.now) }
 {
-    let order = checks::refuse(0, 1 < rank, 404);
-    let active = setup.is_active(p);
-    let partition = checks::refuse(order, !active, 407);
-    let has = setup.has_code(p);
-    let again = checks::refuse(partition, has, 408);
-    let kept = reserved(path);
-    let free = checks::refuse(again, kept, 410);
-    let missing = absent(look, image, path);
-    checks::refuse(free, missing, 411)
+    if Rank::Code < before.rank {
+        return Err(Refusal::Syntax);
+    }
+    if !before.setup.is_active(p) {
+        return Err(Refusal::BadPartitionNumber);
+    }
+    if before.setup.has_code(p) {
+        return Err(Refusal::DupCode);
+    }
+    if reserved(path) {
+        return Err(Refusal::Reserved);
+    }
+    if absent(reading.look, reading.image, path) {
+        return Err(Refusal::NoFile);
+    }
+    Ok(())
 }
 
 // A wrong number of permissions, or NA for an active host.
-fn dseg_broken(setup: Setup, host: usize, count: usize, bits: u32) -> bool
-    ensures { result ≡ dseg_broken setup host count bits }
+fn dseg_broken(setup: &Setup, host: usize, permissions: Permissions) -> bool
+    ensures { result ≡ dseg_broken setup.now host permissions.count permissions.bits }
 {
-    let active = setup.is_active(host);
-    let permission = permission_of(count, bits, host);
-    (count != setup.partitions) | (active & (permission == 0))
+    permissions.count != setup.partitions
+        || setup.is_active(host) && permission_of(permissions, host) == NO_ACCESS
 }
 
 // A wrong number of permissions, or RW for no active partition.
-fn mseg_broken(setup: Setup, count: usize, bits: u32) -> bool
-    ensures { result ≡ mseg_broken setup count bits }
+fn mseg_broken(setup: &Setup, permissions: Permissions) -> bool
+    ensures { result ≡ mseg_broken setup.now permissions.count permissions.bits }
 {
-    let writes = some_writes(setup, count, bits);
-    (count != setup.partitions) | !writes
+    permissions.count != setup.partitions || !some_writes(setup, permissions)
 }
 
-// The first refusal that is due for DSEG[index] = { path, host, permissions }, or 0.
-pub fn dseg_refusal(
-    look: bool,
-    image: &[u8],
-    text: &[u8],
-    rank: u32,
-    setup: Setup,
+// The first refusal that is due for DSEG[index] = { path, grants }.
+#[tactic(auto, unfolding(crate::specs::Rules::dseg_checks, checks::specs::Checks::after, checks::specs::Checks::refused))]
+pub fn dseg_checked(
+    reading: Reading<'_>,
+    before: &Progress,
     index: usize,
     path: &[u8],
-    host: usize,
-    count: usize,
-    bits: u32,
-) -> u32
-    ensures { result ≡ after 0 (dseg_checks look image.now text.now rank setup index path.now host count bits) }
+    grants: Grants,
+) -> Result<(), Refusal>
+    ensures { answer result ≡ after 0 (dseg_checks reading.entry.look reading.entry.image.now reading.entry.text.now (rank_of before.now.rank) before.now.setup index path.now grants.host grants.permissions.count grants.permissions.bits) }
 {
-    let order = checks::refuse(0, 2 < rank, 404);
-    let room = checks::refuse(order, 16 <= setup.dsegcount, 405);
-    let next = checks::refuse(room, index != setup.dsegcount, 406);
-    let partition = checks::refuse(next, setup.partitions <= host, 407);
-    let taken = path_taken(text, path, setup);
-    let fresh = checks::refuse(partition, taken, 409);
-    let kept = reserved(path);
-    let free = checks::refuse(fresh, kept, 410);
-    let missing = absent(look, image, path);
-    let there = checks::refuse(free, missing, 411);
-    let broken = dseg_broken(setup, host, count, bits);
-    checks::refuse(there, broken, 413)
+    let host = grants.host as usize;
+    if Rank::Dseg < before.rank {
+        return Err(Refusal::Syntax);
+    }
+    if SEGMENTS <= before.setup.dsegcount {
+        return Err(Refusal::TooMany);
+    }
+    if index != before.setup.dsegcount {
+        return Err(Refusal::BadIndex);
+    }
+    if before.setup.partitions <= host {
+        return Err(Refusal::BadPartitionNumber);
+    }
+    if path_taken(reading.text, path, &before.setup) {
+        return Err(Refusal::DupPath);
+    }
+    if reserved(path) {
+        return Err(Refusal::Reserved);
+    }
+    if absent(reading.look, reading.image, path) {
+        return Err(Refusal::NoFile);
+    }
+    if dseg_broken(&before.setup, host, grants.permissions) {
+        return Err(Refusal::BadPerms);
+    }
+    Ok(())
 }
 
-// The first refusal that is due for MSEG[index] = { size, host, permissions }, or 0.
-pub fn mseg_refusal(
-    setup: Setup,
+// The first refusal that is due for MSEG[index] = { size, grants }.
+#[tactic(auto, unfolding(crate::specs::Rules::mseg_checks, checks::specs::Checks::after, checks::specs::Checks::refused))]
+pub fn mseg_checked(
+    setup: &Setup,
     index: usize,
     size: u64,
-    host: usize,
-    count: usize,
-    bits: u32,
-) -> u32
-    ensures { result ≡ after 0 (mseg_checks setup index size host count bits) }
+    grants: Grants,
+) -> Result<(), Refusal>
+    ensures { answer result ≡ after 0 (mseg_checks setup.now index size grants.host grants.permissions.count grants.permissions.bits) }
 {
-    let room = checks::refuse(0, 16 <= setup.msegcount, 405);
-    let next = checks::refuse(room, index != setup.msegcount, 406);
-    let partition = checks::refuse(next, setup.partitions <= host, 407);
-    let sized = checks::refuse(partition, (size == 0) | (16777216 < size), 412);
-    let broken = mseg_broken(setup, count, bits);
-    checks::refuse(sized, broken, 413)
+    if SEGMENTS <= setup.msegcount {
+        return Err(Refusal::TooMany);
+    }
+    if index != setup.msegcount {
+        return Err(Refusal::BadIndex);
+    }
+    if setup.partitions <= grants.host as usize {
+        return Err(Refusal::BadPartitionNumber);
+    }
+    if size == 0 || LARGEST < size {
+        return Err(Refusal::BadSize);
+    }
+    if mseg_broken(setup, grants.permissions) {
+        return Err(Refusal::BadPerms);
+    }
+    Ok(())
 }

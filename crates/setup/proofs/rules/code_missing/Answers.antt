@@ -1,14 +1,12 @@
-use Rattle.std.proofs.Common.{add-one, arith, ◌≡◌, refl}
-use Rattle.setup.specs.Rules.{code_missing}
+use Rattle.std.proofs.Common.{rules, tests, ◌∙◌, ◌&&◌, not, arith}
+use Rattle.std.proofs.lemmas.Iterator.{YieldsList-from_range}
+use Rattle.std.proofs.lemmas.Iterator.Search.{any_from_yields_List}
+use Rattle.setup.specs.Setup.{is_active, has_code}
+use Rattle.setup.specs.Values.{missing_any}
 use Rattle.setup.proofs.rules.code_missing.Goals as goal
 
-pub loop-i-init : goal.loop-i-init
-unfolding code_missing
-loop-i-init c = (refl, omega arith)
-
-pub loop-i-preserved : goal.loop-i-preserved
-unfolding code_missing
-loop-i-preserved c = (rw (add-one, c.is_active-active.ensures, c.has_code-has.ensures, c.loop-i.invariant.0), omega arith)
-
 pub returns : goal.returns
-returns c = let t : c.loop-i.i ≡ 8 = omega arith in rw t at c.loop-i.invariant.0
+returns c = let setup = c.args.setup.now in
+    any_from_yields_List (λ p. is_active setup p && not (has_code setup p)) _ _ c.any.result c.any.ensures.ran (YieldsList-from_range 0 8 8 (cc) (omega arith))
+    (λ x b q k. search (rules, tests))
+    ∙ missing_any setup 8

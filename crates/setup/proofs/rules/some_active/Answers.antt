@@ -1,14 +1,10 @@
-use Rattle.std.proofs.Common.{add-one, arith, ◌≡◌, refl}
-use Rattle.setup.specs.Rules.{some_active}
+use Rattle.std.proofs.Common.{rules, tests, ◌∙◌}
+use Rattle.std.proofs.lemmas.Iterator.{YieldsList-from_slice, YieldsList-from_take}
+use Rattle.std.proofs.lemmas.Iterator.Search.{any_from_yields_List}
+use Rattle.setup.specs.Values.{active_any}
 use Rattle.setup.proofs.rules.some_active.Goals as goal
 
-pub loop-i-init : goal.loop-i-init
-unfolding some_active
-loop-i-init c = (refl, omega arith)
-
-pub loop-i-preserved : goal.loop-i-preserved
-unfolding some_active
-loop-i-preserved c = (rw (add-one, c.loop-i.invariant.0), omega arith)
-
 pub returns : goal.returns
-returns c = let t : c.loop-i.i ≡ c.args.count = omega arith in rw t at c.loop-i.invariant.0
+returns c = any_from_yields_List (λ flag. flag) _ _ c.any.result c.any.ensures.ran (YieldsList-from_take c.args.count (YieldsList-from_slice c.args.active (cc)) (cc))
+    (λ x b q k. search (rules, tests))
+    ∙ active_any c.args.active c.args.count

@@ -1,14 +1,14 @@
-use Rattle.std.proofs.Common.{add-one, arith, ◌≡◌, refl}
-use Rattle.setup.specs.Rules.{some_writes}
+use Rattle.std.proofs.Common.{rules, tests, ◌∙◌, ◌&&◌, eqb, arith}
+use Rattle.std.proofs.lemmas.Iterator.{YieldsList-from_range}
+use Rattle.std.proofs.lemmas.Iterator.Search.{any_from_yields_List}
+use Rattle.setup.specs.Setup.{is_active, permission_of}
+use Rattle.setup.specs.Values.{writes_any}
 use Rattle.setup.proofs.rules.some_writes.Goals as goal
 
-pub loop-i-init : goal.loop-i-init
-unfolding some_writes
-loop-i-init c = (refl, omega arith)
-
-pub loop-i-preserved : goal.loop-i-preserved
-unfolding some_writes
-loop-i-preserved c = (rw (add-one, c.is_active-active.ensures, c.permission_of-permission.ensures, c.loop-i.invariant.0), omega arith)
-
 pub returns : goal.returns
-returns c = let t : c.loop-i.i ≡ c.args.setup.partitions = omega arith in rw t at c.loop-i.invariant.0
+returns c = let setup = c.args.setup.now in
+    let permissions = c.args.permissions in
+    any_from_yields_List (λ p. is_active setup p && eqb (permission_of permissions.count permissions.bits p) 2) _ _ c.any.result c.any.ensures.ran
+    (YieldsList-from_range 0 setup.partitions setup.partitions (cc) (omega arith))
+    (λ x b q k. search (rules, tests))
+    ∙ writes_any setup permissions.count permissions.bits setup.partitions
