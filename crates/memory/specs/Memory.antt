@@ -5,7 +5,7 @@ use Rattle.checks.specs.Checks.{Check, ◌when◌, after}
 use Rattle.checks.specs.Settle.{settle}
 use Rattle.checks.specs.Told.{Told, told}
 use Rattle.state.specs.declared.Segment.{Segment}
-use Rattle.memory.specs.Rights.{Reach}
+use Rattle.memory.specs.declared.Reach.{Reach}
 
 -- the segment's bytes in the arena
 unfoldable pub bytes_of : Segment → List ℕ → List ℕ

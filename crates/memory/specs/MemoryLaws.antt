@@ -5,7 +5,7 @@ use Rattle.octets.specs.OnPartLaws.{length-on_part}
 use Rattle.octets.specs.WriteLaws.{length_over, length-write_at}
 use Rattle.checks.specs.Checks.{after}
 use Rattle.checks.specs.Settle.{by_settle, settle-refused}
-use Rattle.memory.specs.Rights.{Reach}
+use Rattle.memory.specs.declared.Reach.{Reach}
 use Rattle.checks.specs.Told.{Told, told}
 use Rattle.memory.specs.Memory.{bytes_of, load_checks, load, store_checks, store, flush_checks, flush}
 

@@ -2,8 +2,7 @@
 use Rattle.std.specs.Prelude.{Bool, cond, ◌&&◌, List, ℕ, ◌+◌, ◌-◌, ltb, leb, get_or, replicate}
 use Rattle.state.specs.declared.Plan.{Plan}
 use Rattle.state.specs.Parts.{segment_at}
-use Rattle.state.specs.declared.Segment.{Segment}
-use Rattle.memory.specs.declared.Reach.{Reach as Reached}
+use Rattle.memory.specs.declared.Reach.{Reach}
 use Rattle.memory.specs.declared.rights.Permission.{Permission}
 use Rattle.memory.specs.declared.rights.Permission.TheVariants.{NoAccess, ReadOnly, ReadWrite}
 
@@ -27,11 +26,6 @@ unfoldable pub right_of : Plan → List (List ℕ) → ℕ → ℕ → ℕ
 right_of plan permissions row p = cond (declared plan row) (permission (get_or (get_or permissions row (replicate 8 0)) p 0)) 0
 
 -- what a selector gives a partition: its right, whether a file is mapped there (a dseg), the segment
-pub record Reach : Type 0 where
-  pub right : ℕ
-  pub mapped : Bool
-  pub segment : Segment
-
 unfoldable pub reach : Plan → List (List ℕ) → ℕ → ℕ → Reach
 reach plan permissions p selector =
     record {
@@ -40,12 +34,8 @@ reach plan permissions p selector =
       segment = segment_at plan (row_of selector);
     }
 
--- ---- what the code's types say in these numbers
-
+-- the number of each right
 abbrev pub number_of : Permission → ℕ
 number_of NoAccess = 0
 number_of ReadOnly = 1
 number_of ReadWrite = 2
-
-abbrev pub reached : Reached → Reach
-reached r = record { right = number_of r.right; mapped = r.mapped; segment = r.segment }

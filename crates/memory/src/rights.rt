@@ -1,6 +1,6 @@
 //! Which right a partition has to a segment: selectors and permissions.
 ghost use Rattle.std.specs.Prelude.{◌≡◌, not, eqb, get_or, replicate};
-ghost use Rattle.memory.specs.Rights.{number_of, reached, row_of, right_of};
+ghost use Rattle.memory.specs.Rights.{number_of, row_of, right_of};
 ghost use Rattle.memory.specs.Rights.{declared as Rights·declared};
 ghost use Rattle.memory.specs.Rights.{permission as Rights·permission};
 ghost use Rattle.memory.specs.Rights.{reach as Rights·reach};
@@ -53,13 +53,6 @@ impl Permission {
         ensures { result ≡ eqb (number_of self) 0 }
     {
         matches!(self, Permission::NoAccess)
-    }
-
-    // Whether it allows a store and a flush.
-    pub(crate) fn writes(self) -> bool
-        ensures { result ≡ eqb (number_of self) 2 }
-    {
-        matches!(self, Permission::ReadWrite)
     }
 }
 
@@ -120,11 +113,11 @@ pub fn right(plan: &Plan, permissions: &[[u8; 8]; 32], row: usize, partition: u3
 /// What a selector gives a partition; no right where the selector names no segment of its list.
 #[tactic(auto, unfolding(crate::specs::Rights::reach))]
 pub fn reach(plan: &Plan, permissions: &[[u8; 8]; 32], partition: u32, selector: u32) -> Reach
-    ensures { reached result ≡ Rights·reach plan.now permissions.now partition selector }
+    ensures { result ≡ Rights·reach plan.now permissions.now partition selector }
 {
     let row = row_of(selector);
     Reach {
-        right: right(plan, permissions, row, partition),
+        right: right(plan, permissions, row, partition).number(),
         mapped: row < DSEGS,
         segment: plan.segment(row),
     }

@@ -1,6 +1,6 @@
 //! The calls on segments, and the configuration database. The permission table comes by value beside the terminal.
 ghost use Rattle.std.specs.Prelude.{◌≡◌};
-ghost use Rattle.memory.specs.Rights.{reach, reached};
+ghost use Rattle.memory.specs.Rights.{reach};
 ghost use Rattle.terminal.specs.Terminal.{outcome};
 ghost use Rattle.terminal.specs.MemoryCalls.{load, store, flush, configuration};
 
@@ -11,7 +11,7 @@ use memory::{Reach, rights};
 impl Terminal {
     // What a selector gives the calling partition.
     fn reach(&self, permissions: &[[u8; 8]; 32], partition: u32, selector: u32) -> Reach
-        ensures { reached result ≡ reach self.now.plan permissions.now partition selector }
+        ensures { result ≡ reach self.now.plan permissions.now partition selector }
     {
         rights::reach(&self.plan, permissions, partition, selector)
     }
