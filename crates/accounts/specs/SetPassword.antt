@@ -1,4 +1,4 @@
--- Set-password (document 01, Calls): "with the store's number: NO_LOGIN, INVALID_STRING; then the new digest goes into the file image, which is written from its first
+-- Set-password: "with the store's number: NO_LOGIN, INVALID_STRING; then the new digest goes into the file image, which is written from its first
 -- byte as a flush is. Memory then holds what the store holds, also after WRITE_FAILURE."
 use Rattle.std.specs.Prelude.{cond, not, List, [], ◌∷◌, ℕ, ltb, length, take}
 use Rattle.checks.specs.Checks.{Check, ◌when◌, after}

@@ -1,4 +1,4 @@
--- The strings that a caller hands in (document 01, Login): "A string ends at its first zero, which must stand at place 0 to 32, else INVALID_STRING."
+-- The strings that a caller hands in: "A string ends at its first zero, which must stand at place 0 to 32, else INVALID_STRING."
 use Rattle.std.specs.Prelude.{Bool, List, ℕ, ltb, length, take}
 use Rattle.octets.specs.Search.{index_of}
 

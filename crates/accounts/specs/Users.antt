@@ -1,4 +1,4 @@
--- Who is logged in (document 01, "Parts of a terminal"): "a login record that holds either nobody or the place of one user". A place is a record's number in
+-- Who is logged in: "a login record that holds either nobody or the place of one user". A place is a record's number in
 -- the password table, from 0.
 use Rattle.std.specs.Prelude.{Bool, true, false, ◌&&◌, List, [], ℕ, ltb}
 use Rattle.state.specs.declared.Login.{Login}
@@ -21,7 +21,7 @@ unfoldable pub placed : Login → ℕ → Bool
 placed Nobody records = true
 placed (User i) records = ltb i records
 
--- the table test (01, Calls, BAD_STATE: "a place or count, kept in the state or read in a password table, that leads outside its area"): the table can be read,
+-- the table test (BAD_STATE: "a place or count, kept in the state or read in a password table, that leads outside its area"): the table can be read,
 -- and the user's place is a record of it
 unfoldable pub readable : LoginRecord → List ℕ → Bool
 readable r table = sound table && placed r.user (count table)

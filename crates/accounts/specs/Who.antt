@@ -1,4 +1,4 @@
--- Who (document 01, Calls): "Who needs a buffer of 33 (BAD_BUFFER); name and a zero, or one zero."
+-- Who: "Who needs a buffer of 33 (BAD_BUFFER); name and a zero, or one zero."
 use Rattle.std.specs.Prelude.{List, [], ◌∷◌, ◌++◌, ℕ, ltb, length}
 use Rattle.checks.specs.Checks.{Check, ◌when◌, after}
 use Rattle.checks.specs.Settle.{settle}

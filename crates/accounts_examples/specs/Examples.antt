@@ -1,4 +1,4 @@
--- Points of document 01 about logins and passwords, computed from the definitions. The tables are those of `passwords_examples`: "ab" with a digest of sevens, then "c" with a
+-- Points about logins and passwords, computed from the definitions. The tables are those of `passwords_examples`: "ab" with a digest of sevens, then "c" with a
 -- digest of eights. A digest is computed only where an answer hangs on it.
 use Rattle.std.specs.Prelude.{true, false, List, [], ◌∷◌, ◌++◌, ◌≡◌, refl, ℕ, take, replicate}
 use Rattle.octets.specs.Search.{index_of, index_after}

@@ -1,4 +1,4 @@
--- What the device calls move (document 01, "Calls" and "Points on either side").
+-- What the device calls move.
 use Rattle.std.specs.Prelude.{false, List, [], ◌∷◌, ◌++◌, ◌≡◌, refl, ℕ, replicate}
 use Rattle.devices.specs.Queue.{no_keys}
 use Rattle.devices.specs.Screen.{blanks}

@@ -1,4 +1,4 @@
--- What shutdown shows (document 01, "Calls", Shutdown).
+-- What shutdown shows.
 use Rattle.std.specs.Prelude.{false, List, [], ◌∷◌, ◌++◌, ◌≡◌, refl, ℕ, replicate}
 use Rattle.devices.specs.Queue.{no_keys}
 use Rattle.devices.specs.Screen.{blanks}

@@ -1,4 +1,4 @@
--- The refusals of the device calls, where two are due at once or a bound is met (document 01, "Calls" and "Points on either side").
+-- The refusals of the device calls, where two are due at once or a bound is met.
 use Rattle.std.specs.Prelude.{List, [], ◌∷◌, ◌≡◌, refl, ℕ}
 use Rattle.console.specs.Console.{refusal, read_next, read_random, write_random, write_next}
 use Rattle.console_examples.specs.Opened.{idle, broken, opened}

@@ -1,4 +1,4 @@
--- Document 01, "Configuration database": "Always 2,584 bytes, numbers of four bytes little-endian", which are `spelled 4` (octets, Numbers).
+-- The configuration database: "Always 2,584 bytes, numbers of four bytes little-endian", which are `spelled 4` (octets, Numbers).
 use Rattle.std.specs.Prelude.{cond, List, [], ◌∷◌, ◌++◌, ℕ, zero, suc, ◌+◌, ◌-◌, eqb, ltb, length, replicate}
 use Rattle.octets.specs.Lists.{part, over}
 use Rattle.octets.specs.Numbers.{spelled}

@@ -1,13 +1,12 @@
 -- Crate memory: two results that one contract allows are equal. A theorem for each public function, in the order of the source.
 use Rattle.std.specs.Prelude.{Bool, cond, List, ◌≡◌, refl, ℕ, eqb}
-use Rattle.std.proofs.Common.{ap}
 use Rattle.state.specs.declared.Plan.{Plan}
-use Rattle.memory.specs.declared.Reach.{Reach as Reached}
+use Rattle.memory.specs.declared.Reach.{Reach}
 use Rattle.memory.specs.declared.rights.Permission.{Permission}
 use Rattle.memory.specs.declared.rights.Permission.TheVariants.{NoAccess, ReadOnly, ReadWrite}
 use Rattle.checks.specs.Told.{told}
 use Rattle.memory.specs.Memory.{load as Memory·load, store as Memory·store, flush as Memory·flush}
-use Rattle.memory.specs.Rights.{Reach, number_of, reached, right_of, reach as Rights·reach}
+use Rattle.memory.specs.Rights.{number_of, right_of, reach as Rights·reach}
 use Rattle.determined.specs.Determined.{AtMostOne, plain, by_reading, by_told}
 
 pub load : (n : ℕ) (reach : Reach) (offset : ℕ) (arena buffer : List ℕ)
@@ -42,7 +41,5 @@ pub is_none : (permission : Permission) → AtMostOne (λ (x : Bool). x ≡ eqb 
 is_none permission = plain _
 
 pub reach : (plan : Plan) (permissions : List (List ℕ)) (partition selector : ℕ)
-    → AtMostOne (λ (x : Reached). reached x ≡ Rights·reach plan permissions partition selector)
-reach plan permissions partition selector =
-    by_reading reached (λ (r : Reach). record { right = of_number r.right; mapped = r.mapped; segment = r.segment })
-    (λ x. ap (λ (p : Permission). record { right = p; mapped = x.mapped; segment = x.segment }) (read_back x.right)) _
+    → AtMostOne (λ (x : Reach). x ≡ Rights·reach plan permissions partition selector)
+reach plan permissions partition selector = plain _

@@ -13,7 +13,7 @@ use Rattle.state.specs.declared.LoginRecord.{LoginRecord}
 use Rattle.state.specs.Parts.{part_at, with_part, with_login, seat_at}
 use Rattle.console.specs.Console as console
 use Rattle.console.specs.ConsoleLaws.{Answers, read_next-answers, read_random-answers, write_next-answers, write_random-answers}
-use Rattle.memory.specs.Rights.{Reach}
+use Rattle.memory.specs.declared.Reach.{Reach}
 use Rattle.memory.specs.Memory.{load, store, flush}
 use Rattle.database.specs.Database.{configuration}
 use Rattle.accounts.specs.Who.{who}

@@ -18,7 +18,8 @@ use Rattle.state.specs.declared.Plan.{Plan}
 use Rattle.state.specs.Parts.{segment_at, seat_at, is_active}
 use Rattle.passwords.specs.PasswordFile.{mask_digests}
 use Rattle.passwords.specs.MaskLaws.{mask-length}
-use Rattle.memory.specs.Rights.{Reach, row_of, declared, right_of, reach}
+use Rattle.memory.specs.declared.Reach.{Reach}
+use Rattle.memory.specs.Rights.{row_of, declared, right_of, reach}
 use Rattle.memory.specs.Memory.{bytes_of, flush_checks, flush}
 use Rattle.terminal.specs.declared.Terminal.{Terminal}
 use Rattle.terminal.specs.Terminal.{outcome, unmoved, with_state, with_partition, with_record, guard_of, differs}

@@ -1,4 +1,4 @@
--- Document 01, "Calls": Login, Who, Logout and Set-password, on the calling partition's record, table and file.
+-- Login, Who, Logout and Set-password, on the calling partition's record, table and file.
 use Rattle.std.specs.Prelude.{false, ◌||◌, List, ℕ}
 use Rattle.checks.specs.Settle.{settle}
 use Rattle.octets.specs.Lists.{over, on_part}

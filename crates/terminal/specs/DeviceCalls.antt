@@ -1,4 +1,4 @@
--- Document 01, "Calls", Devices: the four calls on the caller's keyboard and screen.
+-- The four calls on the caller's keyboard and screen.
 use Rattle.std.specs.Prelude.{false, List, ℕ}
 use Rattle.console.specs.Console.{Outcome as ConsoleOutcome, read_next as keysRead, read_random as cellsRead, write_next as bytesShown, write_random as cellsWritten}
 use Rattle.terminal.specs.declared.Terminal.{Terminal}

@@ -1,4 +1,4 @@
--- Document 01, the events: what moves in the state, with the plan as it was.
+-- The events: what moves in the state, with the plan as it was.
 use Rattle.std.specs.Prelude.{Bool, ℕ}
 use Rattle.guard.specs.Events.{key as pressed, attention as attended, fault as flagged}
 use Rattle.terminal.specs.declared.Terminal.{Terminal}

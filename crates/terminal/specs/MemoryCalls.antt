@@ -1,4 +1,4 @@
--- Document 01, "Calls": Memory, Flush and Configuration. The permission table comes beside the state; none of these changes the state.
+-- Load, Store, Flush and Configuration. The permission table comes beside the state; none of these changes the state.
 use Rattle.std.specs.Prelude.{◌||◌, List, ℕ}
 use Rattle.memory.specs.Rights.{reach}
 use Rattle.memory.specs.Memory.{load as loaded, store as stored, flush as flushed}

@@ -1,4 +1,4 @@
--- Document 01, start as a call on a terminal: "A refused start changes no lent byte and hands back the state given."
+-- Start as a call on a terminal: "A refused start changes no lent byte and hands back the state given."
 use Rattle.std.specs.Prelude.{Bool, List, ℕ}
 use Rattle.checks.specs.Settle.{settle}
 use Rattle.begin.specs.Start.{Beginning, start as begun}

@@ -1,4 +1,4 @@
--- Document 01, "Calls": Shutdown and Powerdown.
+-- Shutdown and Powerdown.
 use Rattle.std.specs.Prelude.{true, cond, List, [], ℕ}
 use Rattle.checks.specs.Settle.{settle}
 use Rattle.state.specs.Parts.{with_part, with_stop}

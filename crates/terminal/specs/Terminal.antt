@@ -1,4 +1,4 @@
--- The terminal, what every call sees of it, and what it answers (document 01, "Parts of a terminal" and "Calls").
+-- The terminal, what every call sees of it, and what it answers.
 use Rattle.std.specs.Prelude.{Bool, not, ◌&&◌, ◌||◌, List, ℕ, eqb, length}
 use Rattle.checks.specs.Told.{Told}
 use Rattle.octets.specs.Lists.{part}
