@@ -20,13 +20,9 @@ pub mod rights;
 
 pub use rights::Permission;
 
-<<<<<<< HEAD
 /// What a selector gives a partition: the number of its right (0 NA, 1 RO, 2 RW), whether a file is mapped there (a dseg), and the segment.
-// The right stays a number: `load`, `store` and `flush` promise an answer for every one (docs/DECISIONS.md, "Forms that stay").
-=======
-/// What a selector gives a partition: its right, whether a file is mapped there (a dseg), and the segment.
-// Stays: `mapped` beside the segment. A segment of the plan has a place for a file in any row, and the calls answer for every such plan.
->>>>>>> a2a8106 (Places that keep their form say why; the calls' definitions name their subject and no paper)
+// Stays: the right is a number, and `mapped` stands beside the segment. `load`, `store` and `flush` promise an answer for every number, and a
+// segment of the plan has a place for a file in any row (docs/DECISIONS.md, "Forms that stay").
 #[derive(Clone, Copy, Debug, PartialEq, Eq)]
 pub struct Reach {
     pub right: u8,
