@@ -1,135 +1,66 @@
-// What a run holds besides its areas. The terminal stands apart from the rest, which is small and changes with every
-// line.
-use octets::parts;
-use replay_text::letters::Letters;
-use terminal::Terminal;
+// A run: the terminal, what it is lent, and what the next start is given.
+use super::answers::Answers;
+use super::areas::Area;
+use super::line::{BadLine, LONGEST, Line};
+use terminal::{Answer, Terminal};
 
-// The lengths in use of the text, the store and the three other areas, as the lines before start give them.
-#[derive(Clone, Copy)]
-pub struct Lengths {
-    pub text: usize,
-    pub store: usize,
-    pub arena: usize,
-    pub tables: usize,
-    pub screens: usize,
-}
-
-// What the next start is given, and whether one was accepted; `line` counts the lines, `held` the bytes of the line
-// that is being read, `length` those of the last one and `whole` whether it is complete, `known` whether it has been
-// carried out, `said` the bytes of output that wait; what is left of the input that was read stands from `at` to `end`,
-// and `done` says that its end was met.
-#[derive(Clone, Copy)]
-pub struct Run {
+/// The terminal, and whether a start of it was accepted; what the next start is given; the areas, each as long as the lines
+/// before have made it; the permission table; the buffer that a call is lent; the answers that wait; and how many lines there
+/// were.
+#[derive(Drop)]
+pub struct Session<'a> {
+    pub terminal: Terminal,
     pub accepted: bool,
     pub count: u32,
     pub active: [bool; 8],
     pub soft: bool,
-    pub lengths: Lengths,
-    pub line: usize,
-    pub held: usize,
-    pub length: usize,
-    pub whole: bool,
-    pub known: bool,
-    pub said: usize,
-    pub at: usize,
-    pub end: usize,
-    pub done: bool,
+    pub text: Area<'a>,
+    pub store: Area<'a>,
+    pub arena: Area<'a>,
+    pub tables: Area<'a>,
+    pub screens: Area<'a>,
+    pub permissions: [[u8; 8]; 32],
+    pub buffer: Area<'a>,
+    pub answers: Answers<'a>,
+    pub lines: usize,
 }
 
-// What a line leaves.
-#[derive(Clone, Copy)]
-pub struct Session {
-    pub terminal: Terminal,
-    pub run: Run,
-}
-
-impl Run {
-    // One active partition, no soft power, and the areas' usual lengths.
-    pub fn new() -> Self {
-        let lengths = Lengths {
-            text: 0,
-            store: 0,
-            arena: 4096,
-            tables: 4096,
-            screens: 16000,
-        };
-        let active = [true, false, false, false, false, false, false, false];
-        Run {
-            accepted: false,
-            count: 1,
-            active,
-            soft: false,
-            lengths,
-            line: 0,
-            held: 0,
-            length: 0,
-            whole: false,
-            known: false,
-            said: 0,
-            at: 0,
-            end: 0,
-            done: false,
+impl<'a> Session<'a> {
+    /// Does what the next line of the text says; an answer that this has waits. `given` is the room for bytes that the line
+    /// spells.
+    pub fn obey(&mut self, line: &[u8], given: &mut [u8]) {
+        self.lines = self.lines.saturating_add(1);
+        if let Err(BadLine) = self.obey_or_refuse(line, given) {
+            self.answers.number(b"bad line ", self.lines);
+            self.answers.end_line();
         }
     }
 
-    pub fn with_said(mut self, said: usize) -> Self {
-        self.said = said;
-        self
+    fn obey_or_refuse(&mut self, line: &[u8], given: &mut [u8]) -> Result<(), BadLine> {
+        match line {
+            [] | [b'#', ..] => Ok(()),
+            _ if LONGEST < line.len() => Err(BadLine),
+            _ => self.carry_out(Line::read(line, given)?),
+        }
     }
 
-    pub fn with_lengths(mut self, lengths: Lengths) -> Self {
-        self.lengths = lengths;
-        self
+    fn carry_out(&mut self, line: Line) -> Result<(), BadLine> {
+        match line {
+            Line::Setting(setting) => return self.set(setting),
+            Line::Start => self.start(),
+            Line::Account(partition, call) => self.account_call(partition, call),
+            Line::Device(partition, call) => self.device_call(partition, call),
+            Line::Memory(partition, call) => self.memory_call(partition, call),
+            Line::Stop(partition, call) => self.stop_call(partition, call),
+            Line::Event(event) => self.hear(event),
+            Line::Look(look) => self.look(look),
+        }
+        Ok(())
     }
 
-    pub fn with_soft(mut self, soft: bool) -> Self {
-        self.soft = soft;
-        self
-    }
-
-    pub fn with_accepted(mut self, accepted: bool) -> Self {
-        self.accepted = accepted;
-        self
-    }
-
-    pub fn with_whole(mut self, whole: bool) -> Self {
-        self.whole = whole;
-        self
-    }
-
-    pub fn with_known(mut self, known: bool) -> Self {
-        self.known = known;
-        self
-    }
-
-    pub fn with_held(mut self, held: usize) -> Self {
-        self.held = held;
-        self
-    }
-
-    pub fn with_done(mut self, done: bool) -> Self {
-        self.done = done;
-        self
-    }
-
-    pub fn with_partitions(mut self, letters: Letters) -> Self {
-        let active = letters.active;
-        self.count = letters.count;
-        self.active = active;
-        self
-    }
-
-    pub fn with_input(mut self, at: usize, end: usize) -> Self {
-        self.at = at;
-        self.end = end;
-        self
-    }
-
-    // One line more has been read; nothing is held of the next.
-    pub fn with_line(mut self) -> Self {
-        self.line = parts::sum(self.line, 1, usize::MAX);
-        self.length = self.held;
-        self.held = 0;
-        self
+    /// Goes on with the terminal of the answer. `name` and its number begin a line.
+    pub fn answered(&mut self, name: &[u8], answer: &Answer) {
+        self.terminal = answer.terminal;
+        self.answers.number(name, answer.number as usize);
     }
 }

@@ -1,91 +1,115 @@
-// The lines before start, by their first word. Each function knows a group of words and hands any other on to the next
-// group.
-use super::session::Run;
-use super::setting_lines;
-use octets::{parts, search};
-use replay_text::{arguments, letters, words};
+// The lines before start, and start. The settings print nothing.
+use super::line::{BadLine, Line, Words};
+use super::session::Session;
+use replay_text::letters;
+use replay_text::letters::Letters;
 
-// The text and the store.
-fn input_lines(
-    run: Run,
-    line: &[u8],
-    verb: &[u8],
-    text: &mut [u8],
-    store: &mut [u8],
-    given: &mut [u8],
-    out: &mut [u8],
-) -> Run {
-    if search::same(verb, b"text") {
-        let word = parts::piece(line, 5, line.len());
-        return setting_lines::text(run, word, text, out);
-    }
-    if search::same(verb, b"image") {
-        let word = parts::piece(line, 6, line.len());
-        return setting_lines::image(run, word, store, out);
-    }
-    if search::same(verb, b"clear") {
-        let read = arguments::read(b"", line, 6, given);
-        return setting_lines::clear(run, read, out);
-    }
-    run.with_known(false)
+/// What the next start is given; `arena`, `tables` and `screens` take effect at once. A text and an image are still spelt.
+#[derive(Clone, Copy)]
+pub enum Setting<'a> {
+    /// `partitions LETTERS`
+    Partitions(Letters),
+    /// `soft yes`, `soft no`
+    Soft(bool),
+    /// `arena N`
+    Arena(u32),
+    /// `tables N`
+    Tables(u32),
+    /// `screens N`
+    Screens(u32),
+    /// `text BYTES`
+    Text(&'a [u8]),
+    /// `image BYTES`
+    Image(&'a [u8]),
+    /// `clear`
+    Clear,
 }
 
-// The lengths of the other areas.
-fn area_lines(
-    run: Run,
-    line: &[u8],
-    verb: &[u8],
-    text: &mut [u8],
-    store: &mut [u8],
-    arena: &mut [u8],
-    tables: &mut [u8],
-    screens: &mut [u8],
-    given: &mut [u8],
-    out: &mut [u8],
-) -> Run {
-    if search::same(verb, b"arena") {
-        let read = arguments::read(b"a", line, 6, given);
-        return setting_lines::arena(run, read, arena, out);
-    }
-    if search::same(verb, b"tables") {
-        let read = arguments::read(b"a", line, 7, given);
-        return setting_lines::tables(run, read, tables, out);
-    }
-    if search::same(verb, b"screens") {
-        let read = arguments::read(b"a", line, 8, given);
-        return setting_lines::screens(run, read, screens, out);
-    }
-    input_lines(run, line, verb, text, store, given, out)
+// The length of an area.
+fn length_of(words: Words) -> Result<u32, BadLine> {
+    let [length, ..] = words.read(b"a")?.numbers;
+    Ok(length)
 }
 
-// Carries out a line that says what the next start is given, unless the line is done. Where it is none of these nothing
-// is done, and `known` is false.
-pub fn line(
-    run: Run,
-    gathered: &[u8],
-    text: &mut [u8],
-    store: &mut [u8],
-    arena: &mut [u8],
-    tables: &mut [u8],
-    screens: &mut [u8],
-    given: &mut [u8],
-    out: &mut [u8],
-) -> Run {
-    if run.known {
-        return run;
+impl<'a> Setting<'a> {
+    pub fn partitions(words: Words<'a>) -> Result<Line<'a>, BadLine> {
+        let letters = letters::read(words.rest());
+        if !letters.good {
+            return Err(BadLine);
+        }
+        Ok(Line::Setting(Setting::Partitions(letters)))
     }
-    let line = parts::piece(gathered, 0, run.length);
-    let verb = parts::piece(line, 0, words::before(32, line, 0));
-    let known = run.with_known(true);
-    if search::same(verb, b"partitions") {
-        let word = parts::piece(line, 11, line.len());
-        return setting_lines::partitions(known, letters::read(word), out);
+
+    pub fn soft(words: Words<'a>) -> Result<Line<'a>, BadLine> {
+        let [yes, ..] = words.read(b"o")?.numbers;
+        Ok(Line::Setting(Setting::Soft(yes == 1)))
     }
-    if search::same(verb, b"soft") {
-        let read = arguments::read(b"o", line, 5, given);
-        return setting_lines::soft(known, read, out);
+
+    pub fn arena(words: Words<'a>) -> Result<Line<'a>, BadLine> {
+        Ok(Line::Setting(Setting::Arena(length_of(words)?)))
     }
-    area_lines(
-        known, line, verb, text, store, arena, tables, screens, given, out,
-    )
+
+    pub fn tables(words: Words<'a>) -> Result<Line<'a>, BadLine> {
+        Ok(Line::Setting(Setting::Tables(length_of(words)?)))
+    }
+
+    pub fn screens(words: Words<'a>) -> Result<Line<'a>, BadLine> {
+        Ok(Line::Setting(Setting::Screens(length_of(words)?)))
+    }
+
+    pub fn clear(words: Words<'a>) -> Result<Line<'a>, BadLine> {
+        words.none()?;
+        Ok(Line::Setting(Setting::Clear))
+    }
+}
+
+impl Session<'_> {
+    /// Takes a setting over; a text or an image that is wrong or too long is bad.
+    pub fn set(&mut self, setting: Setting) -> Result<(), BadLine> {
+        match setting {
+            Setting::Partitions(letters) => {
+                let active = letters.active;
+                self.count = letters.count;
+                self.active = active;
+            }
+            Setting::Soft(soft) => self.soft = soft,
+            Setting::Arena(length) => {
+                self.arena.lend(length);
+            }
+            Setting::Tables(length) => {
+                self.tables.lend(length);
+            }
+            Setting::Screens(length) => {
+                self.screens.lend(length);
+            }
+            Setting::Text(word) => return self.text.append(word),
+            Setting::Image(word) => return self.store.append(word),
+            Setting::Clear => {
+                self.text.clear();
+                self.store.clear();
+            }
+        }
+        Ok(())
+    }
+
+    /// Starts the terminal: `start NUMBER line LINE`.
+    pub fn start(&mut self) {
+        let active = self.active;
+        let started = self.terminal.start(
+            self.count,
+            active,
+            self.soft,
+            self.text.bytes(),
+            self.store.bytes(),
+            self.arena.bytes_mut(),
+            self.tables.bytes_mut(),
+            self.screens.bytes_mut(),
+            &mut self.permissions,
+        );
+        self.terminal = started.terminal;
+        self.accepted |= started.number == 0;
+        self.answers.number(b"start ", started.number as usize);
+        self.answers.number(b" line ", started.line);
+        self.answers.end_line();
+    }
 }
