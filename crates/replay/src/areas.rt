@@ -1,8 +1,10 @@
-// What a run lends to its terminal.
+// Rows of bytes in use: what a run lends to its terminal, and what it reads.
 use super::line::BadLine;
 use octets::parts;
 use replay_text::hex;
 use replay_text::hex::Size;
+use std::io;
+use std::io::Read;
 
 /// What each byte of a lent row is before it is written.
 pub const UNTOUCHED: u8 = 165;
@@ -34,6 +36,13 @@ impl<'a> Area<'a> {
         let bytes = self.bytes_mut();
         bytes.fill(UNTOUCHED);
         bytes
+    }
+
+    /// Reads into the room from its start; how many bytes were read and are in use now, none at the input's end.
+    pub fn refill(&mut self, rt: &HostRuntime) -> io::Result<usize> {
+        let length = rt.stdin().read(self.room)?;
+        self.length = length;
+        Ok(length)
     }
 
     /// Puts bytes behind those in use, as many as there is room for.

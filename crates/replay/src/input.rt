@@ -2,27 +2,25 @@
 use super::answers::Answers;
 use super::areas::Area;
 use octets::parts;
-use octets::span::Span;
 use replay_text::words;
 use std::io;
-use std::io::Read;
 
-/// What was read last, and which part of it is `left`; the bytes that were gathered of the line that is being read; and
-/// whether the input has ended.
+/// The piece that was read last, of which the bytes from `at` on are left; what was gathered of the line that is being read;
+/// and whether the input has ended.
 #[derive(Drop)]
 pub struct Input<'a> {
-    piece: &'a mut [u8],
-    left: Span,
+    piece: Area<'a>,
+    at: usize,
     line: Area<'a>,
     ended: bool,
 }
 
 impl<'a> Input<'a> {
-    /// Nothing is read yet. A piece is as long as `piece`, and a line that is longer than the room for it is cut.
-    pub fn new(piece: &'a mut [u8], line: Area<'a>) -> Input<'a> {
+    /// Nothing is read yet. A line that is longer than the room for it is cut.
+    pub fn new(piece: Area<'a>, line: Area<'a>) -> Input<'a> {
         Input {
             piece,
-            left: Span::NONE,
+            at: 0,
             line,
             ended: false,
         }
@@ -30,12 +28,12 @@ impl<'a> Input<'a> {
 
     // Where nothing is left of the piece, writes out what waits and reads on.
     fn refill(&mut self, rt: &HostRuntime, answers: &mut Answers) -> io::Result<()> {
-        if self.left.length != 0 {
+        if self.at < self.piece.bytes().len() {
             return Ok(());
         }
         answers.flush(rt)?;
-        let length = rt.stdin().read(self.piece)?;
-        self.left = Span { place: 0, length };
+        let length = self.piece.refill(rt)?;
+        self.at = 0;
         self.ended = length == 0;
         Ok(())
     }
@@ -43,16 +41,14 @@ impl<'a> Input<'a> {
     // Gathers what there is of a line, as far as there is room, and says whether it is complete with it. Behind the input's
     // end what is held is the last line.
     fn gather(&mut self) -> bool {
-        let Span { place, length } = self.left;
-        let rest = parts::piece(self.piece, place, length);
-        let size = words::before(b'\n', rest, 0);
-        self.line.push(parts::piece(rest, 0, size));
-        let taken = size.saturating_add(1);
-        self.left = Span {
-            place: place.saturating_add(taken),
-            length: length.saturating_sub(taken),
-        };
-        size < length || self.ended
+        let at = self.at;
+        let piece = self.piece.bytes();
+        let size = words::before(b'\n', piece, at);
+        self.line.push(parts::piece(piece, at, size));
+        let end = at.saturating_add(size);
+        let complete = end < piece.len();
+        self.at = end.saturating_add(1);
+        complete || self.ended
     }
 
     /// The next line, without its line feed; none behind the input's end.

@@ -54,7 +54,7 @@ fn main(rt: HostRuntime) -> io::Result<()> {
         answers: Answers::new(&mut waiting),
         lines: 0,
     };
-    let mut input = Input::new(&mut piece, Area::new(&mut line, 0));
+    let mut input = Input::new(Area::new(&mut piece, 0), Area::new(&mut line, 0));
     for _ in 0..u64::MAX {
         let Some(line) = input.next_line(&rt, &mut session.answers)? else {
             break;
