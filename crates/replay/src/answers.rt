@@ -1,6 +1,8 @@
 // The lines that are printed.
-use super::output::{Output, put_bytes, put_cells};
+use lines::Output;
 use octets::parts;
+use replay_text::hex::put_bytes;
+use replay_text::shown::put_cells;
 use std::io;
 use std::io::Write;
 

@@ -2,7 +2,6 @@
 use super::line::BadLine;
 use octets::parts;
 use replay_text::hex;
-use replay_text::hex::Size;
 use std::io;
 use std::io::Read;
 
@@ -54,9 +53,7 @@ impl<'a> Area<'a> {
 
     /// Puts the bytes that a word spells behind those in use. A word that is wrong or too long appends nothing.
     pub fn append(&mut self, word: &[u8]) -> Result<(), BadLine> {
-        let Size::Is(size) = hex::size_of(word) else {
-            return Err(BadLine);
-        };
+        let size = hex::size_of(word).ok_or(BadLine)?;
         let end = self.length.saturating_add(size);
         if self.room.len() < end {
             return Err(BadLine);

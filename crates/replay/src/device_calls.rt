@@ -2,9 +2,9 @@
 use super::line::{BadLine, Line, Words};
 use super::session::Session;
 
-/// The two numbers that name a device.
+/// The two numbers by which a call names a device.
 #[derive(Clone, Copy, Debug)]
-pub struct Device {
+pub struct Address {
     pub major: u32,
     pub minor: u32,
 }
@@ -12,39 +12,39 @@ pub struct Device {
 #[derive(Clone, Copy)]
 pub enum DeviceCall<'a> {
     /// `read_next P MAJOR MINOR REQUEST LENGTH`
-    ReadNext(Device, u32, u32),
+    ReadNext(Address, u32, u32),
     /// `write_next P MAJOR MINOR REQUEST BYTES`
-    WriteNext(Device, u32, &'a [u8]),
+    WriteNext(Address, u32, &'a [u8]),
     /// `read_random P MAJOR MINOR OFFSET REQUEST LENGTH`
-    ReadRandom(Device, u32, u32, u32),
+    ReadRandom(Address, u32, u32, u32),
     /// `write_random P MAJOR MINOR OFFSET REQUEST BYTES`
-    WriteRandom(Device, u32, u32, &'a [u8]),
+    WriteRandom(Address, u32, u32, &'a [u8]),
 }
 
 impl<'a> DeviceCall<'a> {
     pub fn read_next(words: Words<'a>) -> Result<Line<'a>, BadLine> {
         let [partition, major, minor, request, length, ..] = words.read(b"nnnnl")?.numbers;
-        let call = DeviceCall::ReadNext(Device { major, minor }, request, length);
+        let call = DeviceCall::ReadNext(Address { major, minor }, request, length);
         Ok(Line::Device(partition, call))
     }
 
     pub fn write_next(words: Words<'a>) -> Result<Line<'a>, BadLine> {
         let read = words.read(b"nnnnb")?;
         let [partition, major, minor, request, ..] = read.numbers;
-        let call = DeviceCall::WriteNext(Device { major, minor }, request, read.bytes);
+        let call = DeviceCall::WriteNext(Address { major, minor }, request, read.bytes);
         Ok(Line::Device(partition, call))
     }
 
     pub fn read_random(words: Words<'a>) -> Result<Line<'a>, BadLine> {
         let [partition, major, minor, offset, request, length] = words.read(b"nnnnnl")?.numbers;
-        let call = DeviceCall::ReadRandom(Device { major, minor }, offset, request, length);
+        let call = DeviceCall::ReadRandom(Address { major, minor }, offset, request, length);
         Ok(Line::Device(partition, call))
     }
 
     pub fn write_random(words: Words<'a>) -> Result<Line<'a>, BadLine> {
         let read = words.read(b"nnnnnb")?;
         let [partition, major, minor, offset, request, _] = read.numbers;
-        let call = DeviceCall::WriteRandom(Device { major, minor }, offset, request, read.bytes);
+        let call = DeviceCall::WriteRandom(Address { major, minor }, offset, request, read.bytes);
         Ok(Line::Device(partition, call))
     }
 }
@@ -56,19 +56,19 @@ impl Session<'_> {
         let terminal = &self.terminal;
         let screens = self.screens.bytes_mut();
         match call {
-            DeviceCall::ReadNext(Device { major, minor }, request, length) => {
+            DeviceCall::ReadNext(Address { major, minor }, request, length) => {
                 let buffer = self.buffer.lend(length);
                 let answer = terminal.read_next(p, major, minor, request, buffer);
                 self.answered(b"read_next ", &answer);
                 self.answers.number(b" ", answer.count);
                 self.answers.bytes(b" ", self.buffer.bytes());
             }
-            DeviceCall::WriteNext(Device { major, minor }, request, bytes) => {
+            DeviceCall::WriteNext(Address { major, minor }, request, bytes) => {
                 let answer = terminal.write_next(p, major, minor, request, bytes, screens);
                 self.answered(b"write_next ", &answer);
                 self.answers.number(b" ", answer.count);
             }
-            DeviceCall::ReadRandom(Device { major, minor }, offset, request, length) => {
+            DeviceCall::ReadRandom(Address { major, minor }, offset, request, length) => {
                 let buffer = self.buffer.lend(length);
                 let answer = terminal.read_random(
                     p, major, minor, offset, request, screens, buffer,
@@ -77,7 +77,7 @@ impl Session<'_> {
                 self.answers.number(b" ", answer.count);
                 self.answers.bytes(b" ", self.buffer.bytes());
             }
-            DeviceCall::WriteRandom(Device { major, minor }, offset, request, bytes) => {
+            DeviceCall::WriteRandom(Address { major, minor }, offset, request, bytes) => {
                 let answer = terminal.write_random(
                     p, major, minor, offset, request, bytes, screens,
                 );

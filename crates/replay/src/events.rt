@@ -13,17 +13,17 @@ pub enum Event {
 }
 
 impl Event {
-    pub fn key<'a>(words: Words<'a>) -> Result<Line<'a>, BadLine> {
+    pub fn key(words: Words) -> Result<Line, BadLine> {
         let [byte, ..] = words.read(b"y")?.numbers;
         Ok(Line::Event(Event::Key((byte % 256) as u8)))
     }
 
-    pub fn attention<'a>(words: Words<'a>) -> Result<Line<'a>, BadLine> {
+    pub fn attention(words: Words) -> Result<Line, BadLine> {
         words.none()?;
         Ok(Line::Event(Event::Attention))
     }
 
-    pub fn fault<'a>(words: Words<'a>) -> Result<Line<'a>, BadLine> {
+    pub fn fault(words: Words) -> Result<Line, BadLine> {
         let [partition, device, set, ..] = words.read(b"nns")?.numbers;
         Ok(Line::Event(Event::Fault(partition, device, set == 1)))
     }

@@ -5,8 +5,8 @@ use octets::parts;
 use replay_text::words;
 use std::io;
 
-/// The piece that was read last, of which the bytes from `at` on are left; what was gathered of the line that is being read;
-/// and whether the input has ended.
+/// The piece that was read last, of which the bytes from `at` on are left; what was gathered of the line that is being
+/// read; and whether the input has ended.
 #[derive(Drop)]
 pub struct Input<'a> {
     piece: Area<'a>,
@@ -38,8 +38,8 @@ impl<'a> Input<'a> {
         Ok(())
     }
 
-    // Gathers what there is of a line, as far as there is room, and says whether it is complete with it. Behind the input's
-    // end what is held is the last line.
+    // Gathers what there is of a line, as far as there is room, and says whether it is complete with it. Behind the
+    // input's end what is held is the last line.
     fn gather(&mut self) -> bool {
         let at = self.at;
         let piece = self.piece.bytes();

@@ -40,8 +40,8 @@ pub struct Words<'a> {
     given: &'a mut [u8],
 }
 
-/// The numbers that words spell, in their order (a length for bytes, 1 or 0 for a choice), and the bytes, one behind the
-/// other.
+/// The numbers that words spell, in their order (a length for bytes, 1 or 0 for a choice), and the bytes, one behind
+/// the other.
 #[derive(Clone, Copy)]
 pub struct Arguments<'a> {
     pub numbers: [u32; 6],
@@ -54,13 +54,11 @@ impl<'a> Words<'a> {
         parts::piece(self.line, self.at, self.line.len())
     }
 
-    /// One word for each kind (replay_text, arguments).
+    /// One word for each kind: n a number, l the length of a buffer, a the length of an area, b bytes, y one byte,
+    /// s `set` or `clear`, o `yes` or `no`.
     pub fn read(self, kinds: &[u8]) -> Result<Arguments<'a>, BadLine> {
         let Words { line, at, given } = self;
-        let read = arguments::read(kinds, line, at, given);
-        if !read.good {
-            return Err(BadLine);
-        }
+        let read = arguments::read(kinds, line, at, given).ok_or(BadLine)?;
         let numbers = read.numbers;
         let bytes = parts::piece(given, 0, read.held);
         Ok(Arguments { numbers, bytes })
@@ -68,7 +66,7 @@ impl<'a> Words<'a> {
 
     /// No word.
     pub fn none(self) -> Result<(), BadLine> {
-        let _ = self.read(b"")?;
+        self.read(b"")?;
         Ok(())
     }
 }
@@ -113,7 +111,7 @@ impl<'a> Line<'a> {
     }
 }
 
-fn start<'a>(words: Words<'a>) -> Result<Line<'a>, BadLine> {
+fn start(words: Words) -> Result<Line, BadLine> {
     words.none()?;
     Ok(Line::Start)
 }

@@ -1,13 +1,9 @@
 // `show` and `screen`: what the running terminal and its areas are now.
 use super::line::{BadLine, Line, Words};
 use super::session::Session;
+use devices::screen::{CELLS, COLUMNS};
 use octets::parts;
-use state::Login;
-
-/// A screen's columns, and its cells in 25 rows.
-const COLUMNS: usize = 80;
-
-const CELLS: usize = 2000;
+use state::{Login, PARTITIONS};
 
 #[derive(Clone, Copy, Debug)]
 pub enum Look {
@@ -18,12 +14,12 @@ pub enum Look {
 }
 
 impl Look {
-    pub fn show<'a>(words: Words<'a>) -> Result<Line<'a>, BadLine> {
+    pub fn show(words: Words) -> Result<Line, BadLine> {
         words.none()?;
         Ok(Line::Look(Look::Show))
     }
 
-    pub fn screen<'a>(words: Words<'a>) -> Result<Line<'a>, BadLine> {
+    pub fn screen(words: Words) -> Result<Line, BadLine> {
         let [partition, ..] = words.read(b"n")?.numbers;
         Ok(Line::Look(Look::Screen(partition)))
     }
@@ -51,7 +47,7 @@ impl Session<'_> {
     fn show(&mut self) {
         if self.accepted {
             self.show_head();
-            for p in 0..8 {
+            for p in 0..PARTITIONS {
                 self.show_partition(p);
             }
         } else {

@@ -1,12 +1,13 @@
 // Reads a replay text from standard input and writes the terminal's answers (docs/REPLAY.md).
 //
-// Memory is fixed: all that a run holds stands in the rows that `main` makes, so that neither a long line nor a long text
-// takes more. A read or a write that fails ends the program with an error.
+// Memory is fixed: all that a run holds stands in the rows that `main` makes, so that neither a long line nor a long
+// text takes more. A read or a write that fails ends the program with an error.
 #![tactic(auto)]
 
 use answers::Answers;
 use areas::{Area, UNTOUCHED};
 use input::Input;
+use replay_text::letters::Letters;
 use session::Session;
 use std::io;
 use terminal::Terminal;
@@ -20,7 +21,6 @@ mod input;
 mod line;
 mod looks;
 mod memory_calls;
-mod output;
 mod session;
 mod settings;
 mod stop_calls;
@@ -41,8 +41,10 @@ fn main(rt: HostRuntime) -> io::Result<()> {
     let mut session = Session {
         terminal: Terminal::new(),
         accepted: false,
-        count: 1,
-        active: [true, false, false, false, false, false, false, false],
+        partitions: Letters {
+            count: 1,
+            active: [true, false, false, false, false, false, false, false],
+        },
         soft: false,
         text: Area::new(&mut text, 0),
         store: Area::new(&mut store, 0),

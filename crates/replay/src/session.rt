@@ -2,17 +2,17 @@
 use super::answers::Answers;
 use super::areas::Area;
 use super::line::{BadLine, LONGEST, Line};
+use replay_text::letters::Letters;
 use terminal::{Answer, Terminal};
 
-/// The terminal, and whether a start of it was accepted; what the next start is given; the areas, each as long as the lines
-/// before have made it; the permission table; the buffer that a call is lent; the answers that wait; and how many lines there
-/// were.
+/// The terminal, and whether a start of it was accepted; what the next start is given; the areas, each as long as the
+/// lines before have made it; the permission table; the buffer that a call is lent; the answers that wait; and how many
+/// lines there were.
 #[derive(Drop)]
 pub struct Session<'a> {
     pub terminal: Terminal,
     pub accepted: bool,
-    pub count: u32,
-    pub active: [bool; 8],
+    pub partitions: Letters,
     pub soft: bool,
     pub text: Area<'a>,
     pub store: Area<'a>,
@@ -26,8 +26,8 @@ pub struct Session<'a> {
 }
 
 impl<'a> Session<'a> {
-    /// Does what the next line of the text says; an answer that this has waits. `given` is the room for bytes that the line
-    /// spells.
+    /// Does what the next line of the text says; an answer that this has waits. `given` is the room for the bytes that
+    /// the line spells.
     pub fn obey(&mut self, line: &[u8], given: &mut [u8]) {
         self.lines = self.lines.saturating_add(1);
         if let Err(BadLine) = self.obey_or_refuse(line, given) {

@@ -4,7 +4,8 @@ use super::session::Session;
 use replay_text::letters;
 use replay_text::letters::Letters;
 
-/// What the next start is given; `arena`, `tables` and `screens` take effect at once. A text and an image are still spelt.
+/// What the next start is given; `arena`, `tables` and `screens` take effect at once. The bytes of a text and of an
+/// image are still spelt.
 #[derive(Clone, Copy)]
 pub enum Setting<'a> {
     /// `partitions LETTERS`
@@ -33,10 +34,7 @@ fn length_of(words: Words) -> Result<u32, BadLine> {
 
 impl<'a> Setting<'a> {
     pub fn partitions(words: Words<'a>) -> Result<Line<'a>, BadLine> {
-        let letters = letters::read(words.rest());
-        if !letters.good {
-            return Err(BadLine);
-        }
+        let letters = letters::read(words.rest()).ok_or(BadLine)?;
         Ok(Line::Setting(Setting::Partitions(letters)))
     }
 
@@ -67,11 +65,7 @@ impl Session<'_> {
     /// Takes a setting over; a text or an image that is wrong or too long is bad.
     pub fn set(&mut self, setting: Setting) -> Result<(), BadLine> {
         match setting {
-            Setting::Partitions(letters) => {
-                let active = letters.active;
-                self.count = letters.count;
-                self.active = active;
-            }
+            Setting::Partitions(letters) => self.partitions = letters,
             Setting::Soft(soft) => self.soft = soft,
             Setting::Arena(length) => {
                 self.arena.lend(length);
@@ -94,9 +88,9 @@ impl Session<'_> {
 
     /// Starts the terminal: `start NUMBER line LINE`.
     pub fn start(&mut self) {
-        let active = self.active;
+        let Letters { count, active } = self.partitions;
         let started = self.terminal.start(
-            self.count,
+            count,
             active,
             self.soft,
             self.text.bytes(),
