@@ -9,31 +9,30 @@ use std::io::Write;
 // What waits is written out once there is more than this: no answer to one line is as long as the rest of the row.
 const PLENTY: usize = 49152;
 
-/// The answers that wait to be written out.
+/// The answers that wait to be written out: the first `used` bytes of the row.
 #[derive(Drop)]
 pub struct Answers<'a> {
-    output: Output<'a>,
+    row: &'a mut [u8],
+    used: usize,
 }
 
 impl<'a> Answers<'a> {
     /// None waits; `row` has 65,536 bytes.
     pub fn new(row: &'a mut [u8]) -> Answers<'a> {
-        Answers {
-            output: Output::new(row, 0),
-        }
+        Answers { row, used: 0 }
     }
 
     /// Writes out what waits.
     pub fn flush(&mut self, rt: &HostRuntime) -> io::Result<()> {
-        let used = self.output.at;
-        io::writer(rt).write_all(parts::piece(self.output.row, 0, used))?;
-        self.output.at = 0;
+        let used = self.used;
+        io::writer(rt).write_all(parts::piece(self.row, 0, used))?;
+        self.used = 0;
         Ok(())
     }
 
     /// Writes out what waits where that is much.
     pub fn spare(&mut self, rt: &HostRuntime) -> io::Result<()> {
-        if self.output.at <= PLENTY {
+        if self.used <= PLENTY {
             return Ok(());
         }
         self.flush(rt)
@@ -41,13 +40,19 @@ impl<'a> Answers<'a> {
 
     /// A text as it stands.
     pub fn text(&mut self, text: &[u8]) {
-        self.output.put(text);
+        let used = self.used;
+        let mut output = Output::new(self.row, used);
+        output.put(text);
+        self.used = output.at;
     }
 
     /// A text and a number behind it.
     pub fn number(&mut self, text: &[u8], n: usize) {
-        self.output.put(text);
-        self.output.put_decimal(n as u64);
+        let used = self.used;
+        let mut output = Output::new(self.row, used);
+        output.put(text);
+        output.put_decimal(n as u64);
+        self.used = output.at;
     }
 
     /// A text and a flag behind it, as 1 or 0.
@@ -57,17 +62,23 @@ impl<'a> Answers<'a> {
 
     /// A text and bytes behind it in hex digits.
     pub fn bytes(&mut self, text: &[u8], bytes: &[u8]) {
-        self.output.put(text);
-        put_bytes(&mut self.output, bytes);
+        let used = self.used;
+        let mut output = Output::new(self.row, used);
+        output.put(text);
+        put_bytes(&mut output, bytes);
+        self.used = output.at;
     }
 
     /// Cells of a screen.
     pub fn cells(&mut self, cells: &[u8]) {
-        put_cells(&mut self.output, cells);
+        let used = self.used;
+        let mut output = Output::new(self.row, used);
+        put_cells(&mut output, cells);
+        self.used = output.at;
     }
 
     /// The end of a line.
     pub fn end_line(&mut self) {
-        self.output.put(b"\n");
+        self.text(b"\n");
     }
 }
