@@ -56,6 +56,10 @@ then_put f g = record { wrote = behind f.wrote g.wrote; same_row = rw g.same_row
 pub put_called : {a b : List ℕ} {o n : Output} → a ≡ b → Put a o n → Put b o n
 put_called e w = rw e at w
 
+-- what was written from place `at` on stands there
+pub laid : (at : ℕ) {t : List ℕ} {o n : Output} → Put t o n → o.at ≡ min at most → n.row.now ≡ write_at at t o.row.now
+laid at {t} {o} f e = rw (f.wrote.written, e) (capped most at t o.row.now f.wrote.room)
+
 -- nothing
 pub put_nothing : (o : Output) → Put [] o o
 unfolding most

@@ -10,7 +10,7 @@ use Rattle.text.specs.Steps.{split}
 use Rattle.replay_text.specs.Words.{words}
 use Rattle.replay_text.specs.WordLaws.{words-cut}
 use Rattle.replay_text.specs.Arguments.{Read, told, refused, most, limit, argument, read_words, words_from}
-use Rattle.replay_text.specs.declared.arguments.Arguments.{Arguments}
+use Rattle.replay_text.specs.declared.arguments.Sofar.{Sofar}
 
 pub limit-small : (kind : ℕ) → limit kind ≤ 4294967295
 unfolding limit
@@ -88,7 +88,7 @@ unfolding read_words
 read_end_lem pattern i line place r h k = rw (drop_of_length-le pattern h, from-none line place k)
 
 -- the pattern is at its end, and a word is left
-pub read_left : (pattern : List ℕ) (i : ℕ) (line : List ℕ) (place : ℕ) (a : Arguments) (given : List ℕ) → length pattern ≤ i → place ≤ length line
+pub read_left : (pattern : List ℕ) (i : ℕ) (line : List ℕ) (place : ℕ) (a : Sofar) (given : List ℕ) → length pattern ≤ i → place ≤ length line
     → read_words (drop i pattern) (words_from line place) (told a given) ≡ told (refused a) given
 unfolding read_words told
 read_left pattern i line place a given h k = rw (drop_of_length-le pattern h, from_some line place k, words-cut (drop place line))

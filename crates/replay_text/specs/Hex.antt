@@ -1,8 +1,6 @@
 -- docs/REPLAY.md: bytes as hex digits.
-use Rattle.std.specs.Prelude.{Bool, true, cond, ◌&&◌, ◌||◌, List, [], ◌∷◌, ℕ, ◌+◌, ◌-◌, ◌*◌, ◌/◌, ◌%◌, eqb, leb, ltb, length}
+use Rattle.std.specs.Prelude.{Bool, true, cond, ◌&&◌, ◌||◌, List, [], ◌∷◌, ℕ, ◌+◌, ◌-◌, ◌*◌, ◌/◌, ◌%◌, eqb, leb, ltb, length, Option, Some, None}
 use Rattle.octets.specs.Same.{same_bytes}
-use Rattle.replay_text.specs.declared.hex.Size.{Size}
-use Rattle.replay_text.specs.declared.hex.Size.TheVariants.{Is, Bad}
 
 -- "the hex digits 0 to 9 and a to f"
 abbrev pub is_hex : ℕ → Bool
@@ -17,10 +15,10 @@ all_hex [] = true
 all_hex (b ∷ l) = is_hex b && all_hex l
 
 -- "BYTES is a row of bytes, two hex digits to each, or a single `-` where there is none": how many bytes those are
-unfoldable pub size_of : List ℕ → Size
+unfoldable pub size_of : List ℕ → Option ℕ
 size_of w =
-    cond (same_bytes w (45 ∷ [])) (Is 0)
-    (cond (ltb 0 (length w) && (eqb (length w % 2) 0 && all_hex w)) (Is (length w / 2)) Bad)
+    cond (same_bytes w (45 ∷ [])) (Some 0)
+    (cond (ltb 0 (length w) && (eqb (length w % 2) 0 && all_hex w)) (Some (length w / 2)) None)
 
 -- the bytes, two digits for each, the higher first
 unfoldable pub bytes_of : List ℕ → List ℕ

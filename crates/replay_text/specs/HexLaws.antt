@@ -1,9 +1,11 @@
 -- Laws of hex digits: digit by digit and byte by byte.
-use Rattle.std.specs.Prelude.{Bool, true, false, cond, ◌&&◌, ◌||◌, List, [], ◌∷◌, ◌≡◌, refl, ℕ, zero, suc, ◌+◌, ◌-◌, ◌*◌, ◌/◌, ◌%◌, ◌≤◌, ◌<◌, eqb, leb, length, get_or}
-use Rattle.std.proofs.Common.{arith, lt-ltb, le-ltb, leb-true}
-use Rattle.std.proofs.lemmas.Bool.{false≢true}
+use Rattle.std.specs.Prelude.{Bool, true, false, cond, ◌&&◌, ◌||◌, List, [], ◌∷◌, ◌++◌, ◌≡◌, refl, ℕ, zero, suc, ◌+◌, ◌-◌, ◌*◌, ◌/◌, ◌%◌, ◌≤◌, ◌<◌, eqb, leb, length, take, get_or}
+use Rattle.std.proofs.Common.{sym, ◌∙◌, le-leb, add-one, arith, lt-ltb, le-ltb, leb-true}
+use Rattle.std.proofs.lemmas.Bool.{false≢true, lt-leb}
+use Rattle.std.proofs.lemmas.List.{take_more}
+use Rattle.std.specs.List.{list_all}
 use Rattle.text.specs.Steps.{split}
-use Rattle.replay_text.specs.Hex.{is_hex, worth, bytes_of, hex_digit, hex_of, spelled}
+use Rattle.replay_text.specs.Hex.{is_hex, worth, all_hex, bytes_of, hex_digit, hex_of, spelled}
 
 -- ---- one digit
 
@@ -18,6 +20,24 @@ worth_figure b e h = rw (e, lt-ltb b 97 h)
 pub worth_letter : (b : ℕ) → is_hex b ≡ true → 97 ≤ b → worth b ≡ b - 87
 unfolding worth
 worth_letter b e h = rw (e, le-ltb b 97 h)
+
+pub figure_worth : (b : ℕ) → 48 ≤ b → b < 58 → b - 48 ≡ worth b
+figure_worth b h k = sym (worth_figure b (rw (le-leb 48 b h, le-leb b 57 (omega arith))) (omega arith))
+
+pub letter_worth : (b : ℕ) → 97 ≤ b → b < 103 → b - 97 + 10 ≡ worth b
+letter_worth b h k =
+    let digit : b - 97 + 10 ≡ b - 87 = omega arith in
+    let hex : is_hex b ≡ true = rw (le-leb 48 b (omega arith), lt-leb b 57 (omega arith), le-leb 97 b h, le-leb b 102 (omega arith)) in
+    digit ∙ sym (worth_letter b hex h)
+
+pub below_worth : (b : ℕ) → b < 48 → 0 ≡ worth b
+below_worth b h = sym (worth-none b (rw (lt-leb 48 b h, lt-leb 97 b (omega arith))))
+
+pub between_worth : (b : ℕ) → 58 ≤ b → b < 97 → 0 ≡ worth b
+between_worth b h k = sym (worth-none b (rw (le-leb 48 b (omega arith), lt-leb b 57 h, lt-leb 97 b k)))
+
+pub above_worth : (b : ℕ) → 103 ≤ b → 0 ≡ worth b
+above_worth b h = sym (worth-none b (rw (le-leb 48 b (omega arith), lt-leb b 57 (omega arith), le-leb 97 b (omega arith), lt-leb b 102 h)))
 
 -- one of two ranges
 one_of : (p q r s : Bool) {P : Type 0} → (p && q) || (r && s) ≡ true → (p ≡ true → q ≡ true → P) → (r ≡ true → s ≡ true → P) → P
@@ -61,11 +81,43 @@ byte_at (a ∷ b ∷ l) (suc i) h =
     let f : 2 * suc i + 1 ≡ suc (suc (2 * i + 1)) = omega arith in
     rw (f, e) (byte_at l i (omega arith))
 
+bytes-even : (l : List ℕ) (i : ℕ) → i < length l / 2
+    → bytes_of (take (2 * i) l) ++ ((worth (get_or l (2 * i) 0) * 16 + worth (get_or l (2 * i + 1) 0)) ∷ []) ≡ bytes_of (take (2 * suc i) l)
+unfolding bytes_of
+bytes-even [] i h = absurd (omega arith)
+bytes-even (a ∷ []) i h = absurd (omega arith)
+bytes-even (a ∷ b ∷ l) zero h = refl
+bytes-even (a ∷ b ∷ l) (suc i) h =
+    let e : 2 * suc i ≡ suc (suc (2 * i)) = omega arith in
+    let f : 2 * suc i + 1 ≡ suc (suc (2 * i + 1)) = omega arith in
+    let g : 2 * suc (suc i) ≡ suc (suc (2 * suc i)) = omega arith in
+    rw (f, e, g, bytes-even l i (omega arith))
+
+pub bytes-more : (l : List ℕ) (i : ℕ) → i < length l / 2
+    → bytes_of (take (2 * i) l) ++ ((worth (get_or l (2 * i) 0) * 16 + worth (get_or l (2 * i + 1) 0)) ∷ []) ≡ bytes_of (take (2 * (i + 1)) l)
+bytes-more l i h = rw (add-one i) (bytes-even l i h)
+
+-- an odd digit at the end spells nothing
+pub bytes-whole : (l : List ℕ) → bytes_of (take (2 * (length l / 2)) l) ≡ bytes_of l
+unfolding bytes_of
+bytes-whole [] = refl
+bytes-whole (a ∷ []) = refl
+bytes-whole (a ∷ b ∷ l) =
+    let e : 2 * (suc (suc (length l)) / 2) ≡ suc (suc (2 * (length l / 2))) = omega arith in
+    rw (e, bytes-whole l)
+
 pub first_small : (l : List ℕ) → get_or (bytes_of l) 0 0 ≤ 255
 unfolding bytes_of
 first_small [] = omega arith
 first_small (a ∷ []) = omega arith
 first_small (a ∷ b ∷ l) = omega (arith, worth-small a, worth-small b)
+
+-- ---- a row
+
+pub all_of : (l : List ℕ) → list_all is_hex l ≡ all_hex l
+unfolding all_hex
+all_of [] = refl
+all_of (b ∷ l) = rw (all_of l)
 
 -- ---- printed
 
@@ -83,6 +135,16 @@ digit_at (b ∷ l) (suc (suc i)) h =
     let q : suc (suc i) / 2 ≡ suc (i / 2) = omega arith in
     let r : suc (suc i) % 2 ≡ i % 2 = omega arith in
     rw (q, r) (digit_at l i (omega arith))
+
+hex-append : (l m : List ℕ) → hex_of (l ++ m) ≡ hex_of l ++ hex_of m
+unfolding hex_of
+hex-append [] m = refl
+hex-append (b ∷ l) m = rw (hex-append l m)
+
+pub hex-more : (l : List ℕ) (i : ℕ) → i < length l
+    → hex_of (take i l) ++ (hex_digit (get_or l i 0 / 16) ∷ hex_digit (get_or l i 0 % 16) ∷ []) ≡ hex_of (take (i + 1) l)
+unfolding hex_of
+hex-more l i h = rw (take_more l i 0 h, hex-append)
 
 pub spelled-some : (l : List ℕ) → (length l ≡ 0 → ⊥) → hex_of l ≡ spelled l
 unfolding spelled

@@ -1,5 +1,5 @@
 -- What is printed reads back.
-use Rattle.std.specs.Prelude.{true, false, List, [], ◌∷◌, ◌≡◌, refl, ℕ, suc, ◌+◌, ◌*◌, ◌/◌, ◌%◌, ◌≤◌, ◌<◌, eqb, ltb, length}
+use Rattle.std.specs.Prelude.{true, false, Some, List, [], ◌∷◌, ◌≡◌, refl, ℕ, suc, ◌+◌, ◌*◌, ◌/◌, ◌%◌, ◌≤◌, ◌<◌, eqb, ltb, length}
 use Rattle.std.proofs.Common.{arith, ltb-true, ltb-false, lt-ltb, le-leb, eq-eqb}
 use Rattle.std.proofs.Math.Bool.{and-false}
 use Rattle.std.proofs.lemmas.Bool.{lt-leb}
@@ -8,7 +8,6 @@ use Rattle.octets.specs.Same.{same_bytes}
 use Rattle.text.specs.Steps.{split}
 use Rattle.replay_text.specs.Hex.{is_hex, worth, all_hex, size_of, bytes_of, hex_digit, hex_of, spelled}
 use Rattle.replay_text.specs.HexLaws.{worth_figure, worth_letter, length-hex}
-use Rattle.replay_text.specs.declared.hex.Size.TheVariants.{Is}
 
 figure_hex : (b : ℕ) → 48 ≤ b → b ≤ 57 → is_hex b ≡ true
 figure_hex b h k = rw (le-leb 48 b h, le-leb b 57 k)
@@ -48,7 +47,7 @@ unfolding all_hex hex_of
 digits-hex [] h = refl
 digits-hex (b ∷ l) h = rw ((digit_reads (b / 16) (omega (arith, h 0))).0, (digit_reads (b % 16) (omega arith)).0, digits-hex l (λ i. h (suc i)))
 
-digits-size : (w : List ℕ) (n : ℕ) → same_bytes w (45 ∷ []) ≡ false → length w ≡ 2 * suc n → all_hex w ≡ true → size_of w ≡ Is (suc n)
+digits-size : (w : List ℕ) (n : ℕ) → same_bytes w (45 ∷ []) ≡ false → length w ≡ 2 * suc n → all_hex w ≡ true → size_of w ≡ Some (suc n)
 unfolding size_of
 digits-size w n s e a =
     let half : length w / 2 ≡ suc n = omega arith in
@@ -59,7 +58,7 @@ unfolding same_bytes
 no_dash x y w = and-false (eqb x 45)
 
 -- and the size that is read is how many bytes there were
-pub size_back : (l : List ℕ) → AllBytes l → size_of (spelled l) ≡ Is (length l)
+pub size_back : (l : List ℕ) → AllBytes l → size_of (spelled l) ≡ Some (length l)
 unfolding size_of spelled hex_of same_bytes
 size_back [] h = refl
 size_back (b ∷ l) h =

@@ -1,12 +1,15 @@
 -- docs/REPLAY.md: the letters of `partitions`.
-use Rattle.std.specs.Prelude.{Bool, true, false, ◌&&◌, ◌||◌, List, [], ◌∷◌, ℕ, min, eqb, ltb, length, replicate}
+use Rattle.std.specs.Prelude.{Bool, true, false, cond, Option, Some, None, ◌&&◌, ◌||◌, List, [], ◌∷◌, ℕ, min, eqb, ltb, length, replicate}
 use Rattle.octets.specs.Lists.{over}
 use Rattle.replay_text.specs.declared.letters.Letters.{Letters}
+
+abbrev pub is_letter : ℕ → Bool
+is_letter b = eqb b 65 || eqb b 80
 
 -- "an A stands for an active partition and a P for a passive one"
 unfoldable pub all_letters : List ℕ → Bool
 all_letters [] = true
-all_letters (b ∷ l) = (eqb b 65 || eqb b 80) && all_letters l
+all_letters (b ∷ l) = is_letter b && all_letters l
 
 -- which are A
 unfoldable pub flags : List ℕ → List Bool
@@ -14,9 +17,8 @@ flags [] = []
 flags (b ∷ l) = eqb b 65 ∷ flags l
 
 -- "at least one letter"; "From the tenth letter on letters are checked and then ignored, since nine are enough to try a count that start refuses"
-unfoldable pub letters_of : List ℕ → Letters
-letters_of w = record {
-  good = ltb 0 (length w) && all_letters w;
-  count = min (length w) 9;
-  active = over (flags w) (replicate 8 false);
-}
+unfoldable pub letters_of : List ℕ → Option Letters
+letters_of w =
+    cond (ltb 0 (length w) && all_letters w)
+    (Some (record { count = min (length w) 9; active = over (flags w) (replicate 8 false) }))
+    None

@@ -10,7 +10,6 @@ use Rattle.text.specs.Gaps.{token_place}
 use Rattle.text.specs.Steps.{split}
 use Rattle.text.specs.Tokens.{number_at}
 use Rattle.replay_text.specs.Words.{onto, words, whole, number_of}
-use Rattle.replay_text.specs.declared.words.Number.TheVariants.{Is, Bad}
 
 -- ---- the next mark
 
@@ -26,12 +25,12 @@ index_le mark (b ∷ l) = split (eqb b mark) (λ e. rw e (omega arith)) (λ e. r
 
 -- ---- numbers
 
-pub number-none : (w : List ℕ) → number_at w 0 ≡ None → Bad ≡ number_of w
+pub number-none : (w : List ℕ) → number_at w 0 ≡ None → None ≡ number_of w
 unfolding number_of whole
 number-none w e = split (eqb (token_place w 0) 0) (λ t. rw (t, e)) (λ t. rw t)
 
 pub number-some : (w : List ℕ) (p value next : ℕ) (t : Bool) → p ≡ token_place w 0 → number_at w 0 ≡ Some (value, next)
-    → eqb p 0 && eqb next (length w) ≡ t → cond t (Is value) Bad ≡ number_of w
+    → eqb p 0 && eqb next (length w) ≡ t → cond t (Some value) None ≡ number_of w
 unfolding number_of whole
 number-some w p value next t e f g =
     rw (← g, ← e, f) (split (eqb p 0) (λ u. rw u) (λ u. rw u))

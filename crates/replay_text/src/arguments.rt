@@ -4,169 +4,171 @@
 ghost use Rattle.std.specs.Prelude.{◌≡◌, ◌≤◌, get_or};
 ghost use Rattle.replay_text.specs.Words.{number_of};
 ghost use Rattle.replay_text.specs.Hex.{size_of, bytes_of};
-ghost use Rattle.replay_text.specs.Arguments.{none, with_number, with_held, refused, limit, of_number, choice, of_byte, told, laid, argument, arguments_of};
+ghost use Rattle.replay_text.specs.Arguments.{none, with_number, refused, kept, limit, of_number, choice, of_byte, told, laid, argument, arguments_of};
 
-use super::hex::Size;
-use super::words::Number;
 use super::{MOST, hex, words};
 use octets::{parts, search};
 
-// What was read: the numbers in their order (a length for bytes, 1 and 0 for a choice), and how many bytes were laid into the lent row.
-#[derive(Clone, Copy)]
+// The most bytes that a call is lent.
+const MOST_LENT: usize = 4096;
+
+/// What was read: the numbers in their order (a length for bytes, 1 and 0 for a choice), and how many bytes were laid into the lent row.
+#[derive(Clone, Copy, Debug)]
 pub struct Arguments {
-    pub good: bool,
     pub count: usize,
     pub numbers: [u32; 6],
     pub held: usize,
 }
 
-impl Arguments {
+// What was read so far, and whether it is good. A word that is not is no reason to stop: the bytes of those behind it are laid all the same,
+// and it is only at the end that nothing is answered.
+#[derive(Clone, Copy, Debug)]
+struct Sofar {
+    good: bool,
+    count: usize,
+    numbers: [u32; 6],
+    held: usize,
+}
+
+impl Sofar {
+    #[tactic(auto, unfolding(crate::specs::Arguments::none))]
     fn new() -> Self
         ensures { result ≡ none }
     {
-        let numbers = [0; 6];
-        Arguments {
+        Sofar {
             good: true,
             count: 0,
-            numbers,
+            numbers: [0; 6],
             held: 0,
         }
     }
 
-    fn with_number(mut self, value: u32) -> Self
-        ensures { result ≡ with_number value self }
+    #[tactic(auto, unfolding(crate::specs::Arguments::with_number))]
+    fn push(&mut self, value: u32)
+        ensures { self.new ≡ with_number value self.old }
     {
-        let at = self.count;
-        if 6 <= at {
-            return self;
+        if self.count < self.numbers.len() {
+            self.numbers[self.count] = value;
+            self.count += 1;
         }
-        self.numbers[at] = value;
-        self.count = at + 1;
-        self
     }
 
-    fn with_held(mut self, held: usize) -> Self
-        ensures { result ≡ with_held held self }
-    {
-        self.held = held;
-        self
-    }
-
-    fn refused(mut self) -> Self
-        ensures { result ≡ refused self }
+    #[tactic(auto, unfolding(crate::specs::Arguments::refused))]
+    fn refuse(&mut self)
+        ensures { self.new ≡ refused self.old }
     {
         self.good = false;
-        self
+    }
+
+    #[tactic(auto, unfolding(crate::specs::Arguments::kept))]
+    fn kept(&self) -> Option<Arguments>
+        ensures { result ≡ kept self.now }
+    {
+        if !self.good {
+            return None;
+        }
+        Some(Arguments {
+            count: self.count,
+            numbers: self.numbers,
+            held: self.held,
+        })
     }
 }
 
 // The highest number that a kind allows.
-fn limit(kind: u8) -> u64
+#[tactic(auto, unfolding(crate::specs::Arguments::limit))]
+fn limit(kind: u8) -> u32
     ensures { result ≡ limit kind }
 {
-    if kind == 108 {
-        return 4096;
+    match kind {
+        b'l' => MOST_LENT as u32,
+        b'a' => 65536,
+        _ => u32::MAX,
     }
-    if kind == 97 {
-        return 65536;
-    }
-    4294967295
 }
 
-fn number(sofar: Arguments, most: u64, word: &[u8]) -> Arguments
-    requires { most ≤ 4294967295 }
-    ensures { result ≡ of_number most (number_of word.now) sofar }
+#[tactic(auto, unfolding(crate::specs::Arguments::of_number))]
+fn number(sofar: &mut Sofar, most: u32, word: &[u8])
+    ensures { sofar.new ≡ of_number most (number_of word.now) sofar.old }
 {
-    let Number::Is(value) = words::number_of(word) else {
-        return sofar.refused();
-    };
-    if most < value {
-        return sofar.refused();
+    match words::number_of(word) {
+        Some(value) if value <= u64::from(most) => sofar.push(value as u32),
+        _ => sofar.refuse(),
     }
-    sofar.with_number(value as u32)
 }
 
 // One of two words: 1 for the first, 0 for the second.
-fn choice(sofar: Arguments, first: &[u8], second: &[u8], word: &[u8]) -> Arguments
-    ensures { result ≡ choice first.now second.now word.now sofar }
+#[tactic(auto, unfolding(crate::specs::Arguments::choice))]
+fn choice(sofar: &mut Sofar, first: &[u8], second: &[u8], word: &[u8])
+    ensures { sofar.new ≡ choice first.now second.now word.now sofar.old }
 {
     if search::same(word, first) {
-        return sofar.with_number(1);
+        sofar.push(1);
+    } else if search::same(word, second) {
+        sofar.push(0);
+    } else {
+        sofar.refuse();
     }
-    if search::same(word, second) {
-        return sofar.with_number(0);
-    }
-    sofar.refused()
 }
 
 // Bytes, laid into the lent row behind those that are there.
-fn laid(sofar: Arguments, word: &[u8], given: &mut [u8]) -> Arguments
-    ensures { told result given.new ≡ laid (size_of word.now) word.now sofar given.old }
+#[tactic(auto, unfolding(crate::specs::Arguments::laid, crate::specs::Arguments::with_held))]
+fn laid(sofar: &mut Sofar, word: &[u8], given: &mut [u8])
+    ensures { told sofar.new given.new ≡ laid (size_of word.now) word.now sofar.old given.old }
 {
-    let Size::Is(size) = hex::size_of(word) else {
-        return sofar.refused();
-    };
-    if 4096 < size {
-        return sofar.refused();
+    match hex::size_of(word) {
+        Some(size) if size <= MOST_LENT => {
+            let held = sofar.held;
+            hex::decode(word, given, held);
+            sofar.push(size as u32);
+            sofar.held = parts::sum(held, size, MOST);
+        }
+        _ => sofar.refuse(),
     }
-    let held = sofar.held;
-    hex::decode(word, given, held);
-    sofar
-        .with_number(size as u32)
-        .with_held(parts::sum(held, size, MOST))
 }
 
 // Exactly two digits; the byte is the number.
-fn one_byte(sofar: Arguments, word: &[u8]) -> Arguments
-    ensures { result ≡ of_byte (size_of word.now) (get_or (bytes_of word.now) 0 0) sofar }
+#[tactic(auto, unfolding(crate::specs::Arguments::of_byte))]
+fn one_byte(sofar: &mut Sofar, word: &[u8])
+    ensures { sofar.new ≡ of_byte (size_of word.now) (get_or (bytes_of word.now) 0 0) sofar.old }
 {
-    let mut one = [0u8; 1];
+    let mut one = [0];
     hex::decode(word, &mut one, 0);
-    let Size::Is(size) = hex::size_of(word) else {
-        return sofar.refused();
-    };
-    if size != 1 {
-        return sofar.refused();
+    match hex::size_of(word) {
+        Some(1) => sofar.push(u32::from(one[0])),
+        _ => sofar.refuse(),
     }
-    sofar.with_number(one[0] as u32)
 }
 
 // One word, of the kind that the pattern says.
-fn argument(sofar: Arguments, kind: u8, word: &[u8], given: &mut [u8]) -> Arguments
-    ensures { told result given.new ≡ argument kind word.now (told sofar given.old) }
+#[tactic(auto, unfolding(crate::specs::Arguments::argument, crate::specs::Arguments::told))]
+fn argument(sofar: &mut Sofar, kind: u8, word: &[u8], given: &mut [u8])
+    ensures { told sofar.new given.new ≡ argument kind word.now (told sofar.old given.old) }
 {
-    if kind == 98 {
-        return laid(sofar, word, given);
+    match kind {
+        b'b' => laid(sofar, word, given),
+        b'y' => one_byte(sofar, word),
+        b's' => choice(sofar, b"set", b"clear", word),
+        b'o' => choice(sofar, b"yes", b"no", word),
+        _ => number(sofar, limit(kind), word),
     }
-    if kind == 121 {
-        return one_byte(sofar, word);
-    }
-    if kind == 115 {
-        return choice(sofar, b"set", b"clear", word);
-    }
-    if kind == 111 {
-        return choice(sofar, b"yes", b"no", word);
-    }
-    number(sofar, limit(kind), word)
 }
 
-// Reads the words from place `at` on. They have to be as many as the pattern has letters: a word that is missing is read as an empty one, which no kind allows.
-#[tactic(auto, using(crate::specs::ArgumentLaws::read_end_lem, crate::specs::ArgumentLaws::read_left))]
-pub fn read(pattern: &[u8], line: &[u8], at: usize, given: &mut [u8]) -> Arguments
-    ensures { told result given.new ≡ arguments_of pattern.now line.now at given.old }
+/// Reads the words from place `at` on. They have to be as many as the pattern has letters: a word that is missing is read as an empty
+/// one, which no kind allows. `None` where a word is not of its kind, is missing, or is left.
+pub fn read(pattern: &[u8], line: &[u8], at: usize, given: &mut [u8]) -> Option<Arguments>
+    ensures arguments { result ≡ kept (arguments_of pattern.now line.now at given.old).sofar }
+    ensures given { given.new ≡ (arguments_of pattern.now line.now at given.old).given }
 {
-    let mut sofar = Arguments::new();
+    let mut sofar = Sofar::new();
     let mut place = at;
-    let mut i = 0;
-    while i < pattern.len() {
-        let length = words::before(32, line, place);
-        let next = argument(sofar, pattern[i], parts::piece(line, place, length), given);
-        sofar = next;
+    for &kind in pattern {
+        let length = words::before(b' ', line, place);
+        argument(&mut sofar, kind, parts::piece(line, place, length), given);
         place = parts::sum(place, length + 1, MOST);
-        i += 1;
     }
-    if line.len() < place {
-        return sofar;
+    if place <= line.len() {
+        return None;
     }
-    sofar.refused()
+    sofar.kept()
 }

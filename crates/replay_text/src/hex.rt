@@ -1,115 +1,97 @@
 // Bytes as hex digits, two for each, the higher first.
-ghost use Rattle.std.specs.Prelude.{cond, ◌≡◌, ◌/◌, ◌%◌};
+ghost use Rattle.std.specs.Prelude.{◌≡◌, ◌&&◌, ◌%◌, eqb, ltb, length, ◌≤◌};
+ghost use Rattle.std.specs.List.{list_all};
 ghost use Rattle.octets.specs.Lists.{write_at};
-ghost use Rattle.lines.specs.Wrote.{Wrote};
-ghost use Rattle.replay_text.specs.Hex.{is_hex, worth, hex_digit, all_hex, size_of, bytes_of, spelled};
+ghost use Rattle.lines.specs.Wrote.{Put};
+ghost use Rattle.replay_text.specs.Hex.{is_hex, worth, hex_digit, size_of, bytes_of, spelled};
 
-use super::MOST;
-use lines::numbers::put;
-use octets::parts;
-
-// How many bytes a word spells.
-#[derive(Clone, Copy)]
-pub enum Size {
-    Is(usize),
-    Bad,
-}
+use lines::Output;
+use octets::search;
 
 // A hex digit, 0 to 9 or a to f.
 fn is_hex(b: u8) -> bool
     ensures { result ≡ is_hex b }
 {
-    ((48 <= b) & (b <= 57)) | ((97 <= b) & (b <= 102))
+    matches!(b, b'0'..=b'9' | b'a'..=b'f')
 }
 
 // What a digit counts; any other byte counts 0.
+#[tactic(auto, using(crate::specs::HexLaws::figure_worth, crate::specs::HexLaws::letter_worth, crate::specs::HexLaws::below_worth, crate::specs::HexLaws::between_worth, crate::specs::HexLaws::above_worth))]
 fn worth(b: u8) -> u8
-    ensures { result ≡ worth b }
+    ensures counts { result ≡ worth b }
+    ensures small { result ≤ 15 }
 {
-    if !is_hex(b) {
-        return 0;
+    match b {
+        b'0'..=b'9' => b - b'0',
+        b'a'..=b'f' => b - b'a' + 10,
+        _ => 0,
     }
-    if b < 97 {
-        return b - 48;
-    }
-    b - 87
 }
 
 fn all_hex(word: &[u8]) -> bool
-    ensures { result ≡ all_hex word.now }
+    ensures { result ≡ list_all is_hex word.now }
 {
-    let mut i = 0;
-    while i < word.len() {
-        let on = is_hex(word[i]);
-        if !on {
-            return false;
-        }
-        i += 1;
-    }
-    true
+    word.iter().all(|b| is_hex(*b))
 }
 
-// How many bytes a word spells: none for "-", else one for each two digits.
-pub fn size_of(word: &[u8]) -> Size
+// Two digits to each byte, and one byte or more.
+fn spells_bytes(word: &[u8]) -> bool
+    ensures { result ≡ (ltb 0 (length word.now) && (eqb (length word.now % 2) 0 && list_all is_hex word.now)) }
+{
+    !word.is_empty() && word.len() % 2 == 0 && all_hex(word)
+}
+
+/// How many bytes a word spells: none for "-", else one for each two digits; `None` where it is no such word.
+pub fn size_of(word: &[u8]) -> Option<usize>
     ensures { result ≡ size_of word.now }
 {
-    if octets::search::same(word, b"-") {
-        return Size::Is(0);
+    if search::same(word, b"-") {
+        return Some(0);
     }
-    let good = (0 < word.len()) & ((word.len() % 2 == 0) & all_hex(word));
-    if good {
-        return Size::Is(word.len() / 2);
+    if !spells_bytes(word) {
+        return None;
     }
-    Size::Bad
+    Some(word.len() / 2)
 }
 
-// Writes the bytes that a word spells over `to`, from place `at` on, as far as there is room.
+/// Writes the bytes that a word spells over `to`, from place `at` on, as far as there is room.
 pub fn decode(word: &[u8], to: &mut [u8], at: usize)
     ensures { to.new ≡ write_at at (bytes_of word.now) to.old }
 {
-    let start = parts::least(at, to.len());
-    let count = parts::least(word.len() / 2, to.len() - start);
-    let mut i = 0;
-    while i < count {
-        to[start + i] = worth(word[2 * i]) * 16 + worth(word[2 * i + 1]);
-        i += 1;
+    let mut out = Output::new(to, at);
+    put_decoded(&mut out, word);
+}
+
+// The bytes that a word spells.
+fn put_decoded(out: &mut Output, word: &[u8])
+    ensures { Put (bytes_of word.now) out.old out.new }
+{
+    for i in 0..word.len() / 2 {
+        out.put(&[worth(word[2 * i]) * 16 + worth(word[2 * i + 1])]);
     }
 }
 
 // The digit for a number below 16.
+#[tactic(auto, unfolding(crate::specs::Hex::hex_digit))]
 fn digit(n: u8) -> u8
     ensures { result ≡ hex_digit n }
 {
     if n < 10 {
-        return 48 + n;
+        b'0' + n
+    } else {
+        b'a' - 10 + n % 16
     }
-    87 + n % 16
 }
 
-// The digit of a byte's higher or lower half.
-fn half(b: u8, high: bool) -> u8
-    ensures { result ≡ hex_digit (cond high (b / 16) (b % 16)) }
+/// The digits of all these bytes, or "-" where there is none.
+pub fn put_bytes(out: &mut Output, from: &[u8])
+    ensures { Put (spelled from.now) out.old out.new }
 {
-    if high {
-        return digit(b / 16);
+    if from.is_empty() {
+        out.put(b"-");
+        return;
     }
-    digit(b % 16)
-}
-
-// Writes the digits of all these bytes, or "-" where there is none.
-pub fn put_bytes(out: &mut [u8], at: usize, from: &[u8]) -> usize
-    ensures { Wrote at (spelled from.now) out.old out.new result }
-{
-    if from.len() == 0 {
-        return put(out, at, b"-");
+    for &b in from {
+        out.put(&[digit(b / 16), digit(b % 16)]);
     }
-    let size = 2 * from.len();
-    let start = parts::least(at, out.len());
-    let count = parts::least(size, out.len() - start);
-    let mut i = 0;
-    while i < count {
-        out[start + i] = half(from[i / 2], i % 2 == 0);
-        i += 1;
-    }
-    parts::sum(at, size, MOST)
 }

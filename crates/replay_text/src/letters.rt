@@ -1,59 +1,56 @@
 // The letters of a `partitions` line.
-ghost use Rattle.std.specs.Prelude.{◌≡◌, replicate, false};
-ghost use Rattle.octets.specs.Lists.{over};
-ghost use Rattle.replay_text.specs.Letters.{all_letters, flags, letters_of};
+ghost use Rattle.std.specs.Prelude.{◌≡◌, ◌&&◌, ltb, length};
+ghost use Rattle.std.specs.List.{list_all};
+ghost use Rattle.replay_text.specs.Letters.{is_letter, letters_of};
+ghost use Rattle.replay_text.specs.LetterLaws.{is_a, first_eight};
 
-use octets::parts;
-
-// How many partitions (nine stand for all above eight), and which of the first eight are active.
-#[derive(Clone, Copy)]
+/// How many partitions (nine stand for all above eight), and which of the first eight are active.
+#[derive(Clone, Copy, Debug)]
 pub struct Letters {
-    pub good: bool,
     pub count: u32,
     pub active: [bool; 8],
 }
 
 // Whether the word is made of A and P.
 fn all_letters(word: &[u8]) -> bool
-    ensures { result ≡ all_letters word.now }
+    ensures { result ≡ list_all is_letter word.now }
 {
-    let mut i = 0;
-    while i < word.len() {
-        let b = word[i];
-        let letter = (b == 65) | (b == 80);
-        if !letter {
-            return false;
-        }
-        i += 1;
-    }
-    true
+    word.iter().all(|b| matches!(b, b'A' | b'P'))
+}
+
+// One letter or more.
+fn are_letters(word: &[u8]) -> bool
+    ensures { result ≡ (ltb 0 (length word.now) && list_all is_letter word.now) }
+{
+    !word.is_empty() && all_letters(word)
+}
+
+// Whether letter i is an A.
+#[tactic(auto, unfolding(crate::specs::LetterLaws::is_a))]
+fn is_a(word: &[u8], i: usize) -> bool
+    ensures { result ≡ is_a word.now i }
+{
+    word.get(i) == Some(&b'A')
 }
 
 // Which of the first eight letters are A.
+#[tactic(auto, unfolding(crate::specs::LetterLaws::first_eight))]
 fn flags(word: &[u8]) -> [bool; 8]
-    ensures { result ≡ over (flags word.now) (replicate 8 false) }
+    ensures { result ≡ first_eight word.now }
 {
-    let count = parts::least(word.len(), 8);
-    let mut active = [false; 8];
-    let mut i = 0;
-    while i < count {
-        active[i] = word[i] == 65;
-        i += 1;
-    }
-    active
+    std::array::from_fn(|i| is_a(word, i))
 }
 
-// One letter or more, A for an active partition and P for a passive one; those behind the ninth are read and dropped.
-pub fn read(word: &[u8]) -> Letters
+/// One letter or more, A for an active partition and P for a passive one; those behind the ninth are read and dropped. `None` where
+/// it is no such word.
+pub fn read(word: &[u8]) -> Option<Letters>
     ensures { result ≡ letters_of word.now }
 {
-    let letters = all_letters(word);
-    let good = (0 < word.len()) & letters;
-    let count = parts::least(word.len(), 9) as u32;
-    let active = flags(word);
-    Letters {
-        good,
-        count,
-        active,
+    if !are_letters(word) {
+        return None;
     }
+    Some(Letters {
+        count: word.len().min(9) as u32,
+        active: flags(word),
+    })
 }

@@ -1,32 +1,23 @@
 // A screen's row, for reading.
 ghost use Rattle.std.specs.Prelude.{◌≡◌};
-ghost use Rattle.lines.specs.Wrote.{Wrote};
+ghost use Rattle.lines.specs.Wrote.{Put};
 ghost use Rattle.replay_text.specs.Shown.{shown_byte, shown};
 
-use super::MOST;
-use octets::parts;
+use lines::Output;
 
 // A byte that prints as itself, 32 to 126, or '.'.
+#[tactic(auto, unfolding(crate::specs::Shown::shown_byte))]
 fn shown_byte(b: u8) -> u8
     ensures { result ≡ shown_byte b }
 {
-    let prints = (32 <= b) & (b <= 126);
-    if prints {
-        return b;
-    }
-    46
+    if 32 <= b && b <= 126 { b } else { b'.' }
 }
 
-// Writes the cells, those outside 32 to 126 as '.'.
-pub fn put_cells(out: &mut [u8], at: usize, cells: &[u8]) -> usize
-    ensures { Wrote at (shown cells.now) out.old out.new result }
+/// The cells, those outside 32 to 126 as '.'.
+pub fn put_cells(out: &mut Output, cells: &[u8])
+    ensures { Put (shown cells.now) out.old out.new }
 {
-    let start = parts::least(at, out.len());
-    let count = parts::least(cells.len(), out.len() - start);
-    let mut i = 0;
-    while i < count {
-        out[start + i] = shown_byte(cells[i]);
-        i += 1;
+    for &cell in cells {
+        out.put(&[shown_byte(cell)]);
     }
-    parts::sum(at, cells.len(), MOST)
 }

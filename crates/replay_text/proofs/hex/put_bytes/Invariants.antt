@@ -1,11 +1,8 @@
--- `replay_text::hex::put_bytes` meets its contract. The loop's invariant: the first i digits are written. Assumes nothing.
-use Rattle.std.proofs.Common.{◌≡◌, ◌-◌, ◌≤◌, length, take}
-use Rattle.octets.specs.Lists.{write_at}
+-- `replay_text::hex::put_bytes` meets its contract. The loop's invariant: the digits of the bytes before this one are written. Assumes nothing.
+use Rattle.std.proofs.Common.{take}
+use Rattle.lines.specs.Wrote.{Put}
 use Rattle.replay_text.specs.Hex.{hex_of}
 use Rattle.replay_text.proofs.hex.put_bytes.Given as goal
 
-abbrev pub invariant-loop-i : goal.invariant-loop-i
-invariant-loop-i l = (l.out ≡ write_at l.start (take l.i (hex_of l.from)) l.initial.out) × (length l.out ≡ length l.initial.out) × (l.i ≤ l.count)
-
-abbrev pub decreases-loop-i : goal.decreases-loop-i
-decreases-loop-i l = l.count - l.i
+abbrev pub invariant-loop-b : goal.invariant-loop-b
+invariant-loop-b l = Put (hex_of (take l.b-index l.from)) l.initial.out l.out

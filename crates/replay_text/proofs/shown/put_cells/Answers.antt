@@ -1,32 +1,16 @@
-use Rattle.std.proofs.Common.{◌≡◌, refl, sym, ◌<◌, arith, length, length-set}
-use Rattle.octets.specs.WriteLaws.{write_at-nil}
-use Rattle.lines.specs.Wrote.{most}
+use Rattle.std.proofs.Common.{ap, take_all}
+use Rattle.lines.specs.Laws.{then_put, put_called, put_nothing}
 use Rattle.replay_text.specs.Shown.{shown}
-use Rattle.replay_text.specs.ShownLaws.{shown-at, length-shown}
-use Rattle.replay_text.specs.RowLaws.{one_more, wrote_all}
+use Rattle.replay_text.specs.ShownLaws.{shown-more}
 use Rattle.replay_text.proofs.shown.put_cells.Goals as goal
 
-pub loop-i-init : goal.loop-i-init
-loop-i-init c = (sym (write_at-nil c.least-start.result c.args.out.now), refl, omega arith)
+pub loop-cell-init : goal.loop-cell-init
+unfolding shown
+loop-cell-init c = put_nothing c.args.out.now
 
-pub loop-i-preserved : goal.loop-i-preserved
-loop-i-preserved c = let args = c.args in
-    let loop = c.loop-i in
-    let bytes = shown args.cells.now in
-    let inside : loop.i < length args.cells.now = omega arith in
-    let more : loop.i < length bytes = rw length-shown inside in
-    let byte = shown-at args.cells.now loop.i inside in (
-      one_more c.least-start.result loop.i _ 0 bytes args.out.now loop.out more (rw (byte, c.shown_byte.ensures)) loop.invariant.0,
-      simp length-set loop.invariant.1,
-      omega arith,
-    )
-
-pub shape_of-out : goal.shape_of-out
-shape_of-out c = c.loop-i.invariant.1
+pub loop-cell-preserved : goal.loop-cell-preserved
+loop-cell-preserved c =
+    put_called (rw c.shown_byte.ensures (shown-more c.args.cells.now c.loop-cell.cell-index c.loop-cell-test.true)) (then_put c.loop-cell.invariant c.put.ensures)
 
 pub returns : goal.returns
-unfolding most
-returns c = let args = c.args in
-    let end : c.loop-i.i ≡ c.least-count.result = omega arith in
-    wrote_all args.at c.least-start.result c.least-count.result (shown args.cells.now) args.out.now _ _ c.least-start.ensures
-    (rw length-shown c.least-count.ensures) (rw end at c.loop-i.invariant.0) (rw length-shown c.sum.ensures) (omega arith)
+returns c = put_called (ap shown (take_all c.loop-cell.cell-index c.args.cells.now c.loop-cell-test.false)) c.loop-cell.invariant
