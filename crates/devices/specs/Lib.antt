@@ -1,4 +1,4 @@
--- The two devices of a partition, in document 01's words, and the laws of them.
+-- The two devices of a partition, and the laws of them.
 pub mod Queue
 pub mod Screen
 pub mod Choice

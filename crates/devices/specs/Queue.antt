@@ -1,4 +1,4 @@
--- Document 01, "Parts of a terminal" and "Calls": a keyboard queue of 64 bytes.
+-- A keyboard queue of 64 bytes.
 use Rattle.std.specs.Prelude.{cond, List, [], ◌∷◌, ◌++◌, ℕ, ◌+◌, ◌-◌, min, ltb, length, take, drop, replicate}
 use Rattle.octets.specs.Lists.{over, write_at}
 use Rattle.devices.specs.declared.keyboard.Keyboard.{Keyboard}

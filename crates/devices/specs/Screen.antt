@@ -1,4 +1,4 @@
--- Document 01, "Parts of a terminal" and "Calls": a screen of 25 rows of 80 with a cursor.
+-- A screen of 25 rows of 80 with a cursor.
 -- A cell is a place 0 to 1,999: column c of row r is 80 × r + c.
 use Rattle.std.specs.Prelude.{Bool, cond, ◌&&◌, List, [], ◌∷◌, ◌++◌, ℕ, ◌+◌, ◌-◌, ◌*◌, ◌/◌, ◌%◌, min, eqb, ltb, length, take, drop, replicate, set}
 use Rattle.octets.specs.Lists.{part, over, write_at}

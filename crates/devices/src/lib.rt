@@ -1,4 +1,4 @@
-// The two devices of a partition: the keyboard's queue and the screen (document 01, "Parts of a terminal").
+// The two devices of a partition: the keyboard's queue and the screen.
 #![tactic(auto)]
 
 pub mod keyboard;

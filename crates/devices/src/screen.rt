@@ -1,6 +1,7 @@
 // The screen's cells and its cursor.
 ghost use Rattle.std.specs.Prelude.{◌≡◌, ◌<◌, length};
-ghost use Rattle.devices.specs.Screen.{screen, blanks, scrolled, next_row, put_all, on_screen, random_read, random_write, transfer};
+ghost use Rattle.devices.specs.Screen.{screen, blanks, scrolled, next_row, put_all, on_screen, random_read};
+ghost use Rattle.devices.specs.Screen.{random_write, transfer};
 ghost use Rattle.devices.specs.Screen.{put as Screen·put};
 ghost use Rattle.devices.specs.Screen.{moved as Screen·moved};
 
@@ -80,8 +81,8 @@ fn put_one(cells: &mut [u8], cursor: usize, byte: u8) -> usize
     }
 }
 
-/// Puts one byte: 10, 13 and 8 move the cursor, another is placed where it stands and it advances. What is no screen, not
-/// 2,000 cells or a cursor behind the last, is left as it is.
+/// Puts one byte: 10, 13 and 8 move the cursor, another is placed where it stands and it advances. What is no screen,
+/// not 2,000 cells or a cursor behind the last, is left as it is.
 #[tactic(auto, unfolding(crate::specs::Screen::on_screen, crate::specs::Screen::is_screen))]
 pub fn put(cells: &mut [u8], cursor: usize, byte: u8) -> usize
     ensures { screen cells.new result ≡ on_screen (Screen·put byte) (screen cells.old cursor) }

@@ -1,4 +1,4 @@
--- The keyboard's queue: keys in at the back, the oldest out first, 64 at most (document 01, "Calls").
+-- The keyboard's queue: keys in at the back, the oldest out first, 64 at most.
 use Rattle.std.specs.Prelude.{List, [], ◌∷◌, ◌++◌, ◌≡◌, refl, ℕ, replicate}
 use Rattle.octets.specs.Lists.{over, write_at}
 use Rattle.devices.specs.Queue.{no_keys, held, queue, queue_add, takes, queue_drop, Took, take_out, queue_take}

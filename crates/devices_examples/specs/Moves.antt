@@ -1,4 +1,4 @@
--- Random read and write of a screen: min(request, 2,000 − offset) cells move (document 01, "Calls").
+-- Random read and write of a screen: min(request, 2,000 − offset) cells move.
 use Rattle.std.specs.Prelude.{List, [], ◌∷◌, ◌++◌, ◌≡◌, refl, ℕ}
 use Rattle.octets.specs.Lists.{part, over, write_at}
 use Rattle.devices.specs.Screen.{blanks, moved, transfer, random_read, read_out, random_write, write_out}

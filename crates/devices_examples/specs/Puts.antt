@@ -1,4 +1,4 @@
--- What one byte does to a screen, at every place where document 01 ("Calls", Next-write) makes a difference.
+-- What one byte does to a screen, at every place where next-write makes a difference.
 use Rattle.std.specs.Prelude.{List, [], ◌∷◌, ◌++◌, ◌≡◌, refl, ℕ, replicate}
 use Rattle.devices.specs.Screen.{screen, blanks, row, column, scrolled, next_row, advance, back, placed, put, put_all, is_screen, on_screen}
 

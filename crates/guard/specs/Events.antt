@@ -1,4 +1,4 @@
--- Document 01, "Calls": "Events, ignored once stopped or in a bad state".
+-- The events, ignored once stopped or in a bad state.
 use Rattle.std.specs.Prelude.{Bool, not, cond, ◌&&◌, ℕ, zero, suc, ◌+◌, ltb}
 use Rattle.devices.specs.Queue.{queue_add}
 use Rattle.state.specs.declared.Plan.{Plan}

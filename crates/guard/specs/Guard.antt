@@ -1,4 +1,4 @@
--- Document 01, "Calls": the checks that every call begins with. "First BAD_STATE .., then STOPPED, then BAD_PARTITION (not an active
+-- The checks that every call begins with. "First BAD_STATE .., then STOPPED, then BAD_PARTITION (not an active
 -- partition)".
 use Rattle.std.specs.Prelude.{Bool, not, ◌||◌, [], ◌∷◌, ℕ}
 use Rattle.checks.specs.Checks.{◌when◌, after}

@@ -1,4 +1,4 @@
--- What stands before every call, and the three events, in document 01's words.
+-- What stands before every call, and the three events.
 pub mod Test
 pub mod Guard
 pub mod Events

@@ -1,4 +1,4 @@
--- Document 01, "Calls", BAD_STATE: "a place or count, kept in the state .., that leads outside its area; docs/ gives the test". This is
+-- BAD_STATE: "a place or count, kept in the state .., that leads outside its area; docs/ gives the test". This is
 -- the test, as docs/BAD_STATE.md has it. Unused seats and segments are empty, and pass it.
 use Rattle.std.specs.Prelude.{Bool, ◌&&◌, List, ℕ, ◌+◌, ◌*◌, leb, ltb}
 use Rattle.std.specs.List.{list_all}

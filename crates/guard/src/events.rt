@@ -1,4 +1,5 @@
-// The three events: a key, the attention key, a fault flag. Once the terminal is stopped, or in a bad state, they are ignored.
+// The three events: a key, the attention key, a fault flag. Once the terminal is stopped, or in a bad state, they are
+// ignored.
 ghost use Rattle.std.specs.Prelude.{◌≡◌};
 ghost use Rattle.guard.specs.Events.{running, key, behind, seek, attention, fault};
 

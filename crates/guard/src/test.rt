@@ -2,7 +2,8 @@
 //
 // Sums of a place and a length are never made: they could wrap.
 ghost use Rattle.std.specs.Prelude.{◌≡◌};
-ghost use Rattle.guard.specs.Test.{all_of, inside, good_segment, good_seat, good_partition, good_counts, good_plan, good};
+ghost use Rattle.guard.specs.Test.{all_of, inside, good_segment, good_seat, good_partition, good_counts, good_plan};
+ghost use Rattle.guard.specs.Test.{good};
 
 use devices::keyboard::Keyboard;
 use devices::screen::CELLS;

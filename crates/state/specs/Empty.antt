@@ -26,7 +26,7 @@ no_kept = record { store = 0; arena = 0; tables = 0; screens = 0 }
 unfoldable pub no_plan : Plan
 no_plan = record { count = 0; soft = false; dsegs = 0; msegs = 0; seats = replicate 8 no_seat; segments = replicate 32 no_segment; kept = no_kept }
 
--- "cursors 0, queues empty, fault flags and marks clear, nobody logged in" (01, "Set-up text")
+-- "cursors 0, queues empty, fault flags and marks clear, nobody logged in"
 abbrev pub no_partition : Partition
 no_partition = record { keyboard = no_keys; cursor = 0; keyfault = false; screenfault = false; login = nobody }
 

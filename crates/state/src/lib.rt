@@ -1,13 +1,14 @@
 // What a terminal is: the plan that start fixes, and the state that calls and events move.
 //
-// Both are values. A partition, a seat and a segment are read and changed by number; where there is none of that number the empty one is
-// read and nothing is changed.
+// Both are values. A partition, a seat and a segment are read and changed by number; where there is none of that number
+// the empty one is read and nothing is changed.
 #![tactic(auto)]
 
 mod device;
 
 ghost use Rattle.std.specs.Prelude.{◌≡◌};
-ghost use Rattle.state.specs.Parts.{is_active, seat_at, segment_at, part_at, with_part, with_focus, with_stop, with_keyboard, with_cursor, with_login, with_fault, faulty};
+ghost use Rattle.state.specs.Parts.{is_active, seat_at, segment_at, part_at, with_part, with_focus, with_stop};
+ghost use Rattle.state.specs.Parts.{with_keyboard, with_cursor, with_login, with_fault, faulty};
 ghost use Rattle.state.specs.Empty.{nobody, no_partition, no_state, no_plan};
 
 pub use device::Device;
@@ -56,10 +57,10 @@ impl Segment {
     };
 }
 
-/// What start fixes of one partition: whether it is active, its password table's part of the table area and its password file's part of
-/// the store.
-// Stays: a flag with places beside it. The calls answer for every plan, also for one whose passive seat has places, which the state test
-// looks at; an Option would have no such plan.
+/// What start fixes of one partition: whether it is active, its password table's part of the table area and its
+/// password file's part of the store.
+// Stays: a flag with places beside it. The calls answer for every plan, also for one whose passive seat has places,
+// which the state test looks at; an Option would have no such plan.
 #[derive(Clone, Copy, Debug, PartialEq, Eq)]
 pub struct Seat {
     pub active: bool,
@@ -76,8 +77,9 @@ impl Seat {
     };
 }
 
-/// What start fixes: how many partitions there are, whether power can be switched off by a call, how many dsegs and msegs there are, and
-/// the places of everything. Segment i is dseg i, segment 16 + i is mseg i, as the rows of the permission table are.
+/// What start fixes: how many partitions there are, whether power can be switched off by a call, how many dsegs and
+/// msegs there are, and the places of everything. Segment i is dseg i, segment 16 + i is mseg i, as the rows of the
+/// permission table are.
 // Stays: rows of 8 and 32 with counts beside them, since the layer has no heap.
 #[derive(Clone, Copy, Debug, PartialEq, Eq)]
 pub struct Plan {

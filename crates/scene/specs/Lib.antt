@@ -1,0 +1,2 @@
+-- What the programs over a terminal begin with.
+pub mod Given
