@@ -1,6 +1,6 @@
 -- What the calls of this crate keep: a refusal keeps everything; a password file on the store and its table in memory stay the same rows; a new password is not
 -- seen behind the mask of the digests; a table that can be read stays one.
-use Rattle.std.specs.Prelude.{Bool, true, false, List, [], ◌∷◌, ◌++◌, ◌≡◌, refl, ℕ, ◌≤◌, ◌<◌, take, length}
+use Rattle.std.specs.Prelude.{Bool, true, false, List, [], ◌∷◌, ◌++◌, ◌≡◌, refl, ℕ, ◌≤◌, ◌<◌, take, length, Option, Some, None}
 use Rattle.std.proofs.Common.{sym, ap, ◌∙◌, arith, lt-ltb, take_all}
 use Rattle.checks.specs.Checks.{after}
 use Rattle.checks.specs.Settle.{by_settle, settle_done, settle-refused}
@@ -13,7 +13,7 @@ use Rattle.state.specs.declared.Login.{Login}
 use Rattle.state.specs.declared.Login.TheVariants.{Nobody, User}
 use Rattle.state.specs.declared.LoginRecord.{LoginRecord}
 use Rattle.passwords.specs.declared.Lookup.{Lookup}
-use Rattle.passwords.specs.declared.Lookup.TheVariants.{At, Nowhere}
+use Rattle.passwords.specs.declared.Entry.{Entry}
 use Rattle.passwords.specs.Account.{digest_length}
 use Rattle.passwords.specs.AccountLaws.{both}
 use Rattle.passwords.specs.PasswordFile.{sound, count, find, mask_digests}
@@ -24,7 +24,7 @@ use Rattle.passwords.specs.FoundLaws.{found}
 use Rattle.accounts.specs.declared.Attempt.{Attempt}
 use Rattle.accounts.specs.Strings.{string_of}
 use Rattle.accounts.specs.Users.{place_of, placed, readable, user_name}
-use Rattle.accounts.specs.Login.{attempt, user, tried, login_checks, login}
+use Rattle.accounts.specs.Login.{attempt, user, tried_entry, tried, login_checks, login}
 use Rattle.checks.specs.Told.{Told, told}
 use Rattle.accounts.specs.Who.{who_checks, who}
 use Rattle.accounts.specs.SetPassword.{Changed, changed, file_image, on_store, in_memory, set_checks, set_password}
@@ -49,14 +49,18 @@ set-refused n r pw taken file table h = settle-refused _ _ _ h
 -- ---- login
 
 -- who tries and fails, for whatever reason, changes nothing
-tried-keeps : (r : LoginRecord) (table pw : List ℕ) (at : Lookup) → ((tried r table pw at).number ≡ 0 → ⊥) → (tried r table pw at).login ≡ r
-unfolding tried
-tried-keeps r table pw (Nowhere total) h = refl
-tried-keeps r table pw (At i place total) h = go (same_bytes (digest pw) (part place digest_length table)) refl
+entry-keeps : (r : LoginRecord) (table pw : List ℕ) (total : ℕ) (at : Option Entry) → ((tried_entry r table pw total at).number ≡ 0 → ⊥)
+    → (tried_entry r table pw total at).login ≡ r
+entry-keeps r table pw total None h = refl
+entry-keeps r table pw total (Some a) h = go (same_bytes (digest pw) (part a.digest digest_length table)) refl
   where
-    go : (t : Bool) → same_bytes (digest pw) (part place digest_length table) ≡ t → (tried r table pw (At i place total)).login ≡ r
+    go : (t : Bool) → same_bytes (digest pw) (part a.digest digest_length table) ≡ t → (tried_entry r table pw total (Some a)).login ≡ r
     go true e = absurd (h (rw e))
     go false e = rw e
+
+tried-keeps : (r : LoginRecord) (table pw : List ℕ) (at : Lookup) → ((tried r table pw at).number ≡ 0 → ⊥) → (tried r table pw at).login ≡ r
+unfolding tried
+tried-keeps r table pw at = entry-keeps r table pw at.count at.entry
 
 pub login-keeps : (n : ℕ) (r : LoginRecord) (table name pw : List ℕ) → ((login n r table name pw).number ≡ 0 → ⊥) → (login n r table name pw).login ≡ r
 unfolding login
@@ -72,15 +76,19 @@ user-readable r table i low h =
     let can = (both (sound table) (placed r.user (count table)) h).0 in
     rw (can, lt-ltb i (count table) low)
 
+entry-readable : (r : LoginRecord) (table name pw : List ℕ) (total : ℕ) (at : Option Entry) → find name table ≡ record { entry = at; count = total }
+    → readable r table ≡ true → readable (tried_entry r table pw total at).login table ≡ true
+entry-readable r table name pw total None f h = h
+entry-readable r table name pw total (Some a) f h = go (same_bytes (digest pw) (part a.digest digest_length table)) refl
+  where
+    go : (t : Bool) → same_bytes (digest pw) (part a.digest digest_length table) ≡ t → readable (tried_entry r table pw total (Some a)).login table ≡ true
+    go true e = rw e (user-readable r table a.number (found name table a.number a.digest total f).is_record h)
+    go false e = rw e h
+
 tried-readable : (r : LoginRecord) (table name pw : List ℕ) (at : Lookup) → find name table ≡ at → readable r table ≡ true
     → readable (tried r table pw at).login table ≡ true
 unfolding tried
-tried-readable r table name pw (Nowhere total) f h = h
-tried-readable r table name pw (At i place total) f h = go (same_bytes (digest pw) (part place digest_length table)) refl
-  where
-    go : (t : Bool) → same_bytes (digest pw) (part place digest_length table) ≡ t → readable (tried r table pw (At i place total)).login table ≡ true
-    go true e = rw e (user-readable r table i (found name table i place total f).is_record h)
-    go false e = rw e h
+tried-readable r table name pw at = entry-readable r table name pw at.count at.entry
 
 pub login-readable : (n : ℕ) (r : LoginRecord) (table name pw : List ℕ) → readable r table ≡ true → readable (login n r table name pw).login table ≡ true
 unfolding login

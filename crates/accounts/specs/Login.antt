@@ -1,5 +1,5 @@
 -- Login (document 01, Calls): "Order: LOGIN_BUSY, name, password, AUTH_FAILURE (no such name, then digest differs)."
-use Rattle.std.specs.Prelude.{cond, not, List, [], ◌∷◌, ℕ, ◌+◌}
+use Rattle.std.specs.Prelude.{cond, not, List, [], ◌∷◌, ℕ, ◌+◌, Option, Some, None}
 use Rattle.checks.specs.Checks.{Check, ◌when◌, after}
 use Rattle.checks.specs.Settle.{settle}
 use Rattle.octets.specs.Lists.{part}
@@ -7,7 +7,7 @@ use Rattle.octets.specs.Same.{same_bytes}
 use Rattle.sha256.specs.Padding.{blocks}
 use Rattle.sha256.specs.Digest.{digest}
 use Rattle.passwords.specs.declared.Lookup.{Lookup}
-use Rattle.passwords.specs.declared.Lookup.TheVariants.{At, Nowhere}
+use Rattle.passwords.specs.declared.Entry.{Entry}
 use Rattle.passwords.specs.Account.{digest_length}
 use Rattle.passwords.specs.PasswordFile.{find}
 use Rattle.state.specs.declared.Login.TheVariants.{User}
@@ -31,12 +31,15 @@ digested pw count = record { digest = digest pw; count = count + blocks pw }
 
 -- "AUTH_FAILURE (no such name, then digest differs). The answer carries a work count: the records read, up to and with the named one or all of them, plus one
 -- for each digest block."
-unfoldable pub tried : LoginRecord → List ℕ → List ℕ → Lookup → Attempt
-tried r table pw (Nowhere count) = attempt 300 count r
-tried r table pw (At i place count) =
-    cond (same_bytes (digest pw) (part place digest_length table))
-    (attempt 0 (count + blocks pw) (user i))
+abbrev pub tried_entry : LoginRecord → List ℕ → List ℕ → ℕ → Option Entry → Attempt
+tried_entry r table pw count None = attempt 300 count r
+tried_entry r table pw count (Some e) =
+    cond (same_bytes (digest pw) (part e.digest digest_length table))
+    (attempt 0 (count + blocks pw) (user e.number))
     (attempt 300 (count + blocks pw) r)
+
+unfoldable pub tried : LoginRecord → List ℕ → List ℕ → Lookup → Attempt
+tried r table pw found = tried_entry r table pw found.count found.entry
 
 -- "Order: LOGIN_BUSY, name, password"
 unfoldable pub login_checks : LoginRecord → List ℕ → List ℕ → List Check

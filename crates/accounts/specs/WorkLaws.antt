@@ -5,8 +5,7 @@ use Rattle.octets.specs.Search.{index_of, index_after}
 use Rattle.rows.specs.Records.{chunks}
 use Rattle.sha256.specs.Padding.{zeros, blocks}
 use Rattle.sha256.specs.Laws.{length-padded}
-use Rattle.passwords.specs.declared.Lookup.TheVariants.{At}
-use Rattle.passwords.specs.PasswordFile.{count, find}
+use Rattle.passwords.specs.PasswordFile.{count, in_record, find}
 use Rattle.passwords.specs.WalkLaws.{first-at}
 use Rattle.passwords.specs.FoundLaws.{found}
 use Rattle.accounts.specs.Strings.{ending, string_of}
@@ -51,7 +50,7 @@ few_records table =
     let h = records_inside table 0 (chunks table) refl (omega arith) in
     omega arith
 
-pub few_read : (name table : List ℕ) (i place total : ℕ) → find name table ≡ At i place total → total ≤ length table
+pub few_read : (name table : List ℕ) (i place total : ℕ) → find name table ≡ in_record i place total → total ≤ length table
 few_read name table i place total e =
     let f = found name table i place total e in
     let low = f.is_record in

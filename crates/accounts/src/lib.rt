@@ -5,22 +5,21 @@
 
 use checks::{Refusal, number_behind};
 use octets::{parts, search};
-use passwords::Lookup;
+use passwords::{Entry, Lookup};
 use state::{Login, LoginRecord};
 
 mod strings;
 mod users;
 
-ghost use Rattle.std.specs.Prelude.{◌≡◌, [], ◌∷◌, ◌++◌, ◌<◌, ◌^◌};
+ghost use Rattle.std.specs.Prelude.{Some, ◌≡◌, [], ◌∷◌, ◌++◌, ◌<◌, ◌^◌};
 ghost use Rattle.checks.specs.Checks.{after};
 ghost use Rattle.checks.specs.Refusals.{answer};
 ghost use Rattle.octets.specs.Lists.{over};
 ghost use Rattle.passwords.specs.PasswordFile.{find};
-ghost use Rattle.passwords.specs.declared.Lookup.TheVariants.{At};
 ghost use Rattle.accounts.specs.Strings.{string_of};
 ghost use Rattle.accounts.specs.Users.{readable, user_name, place_of};
 ghost use Rattle.checks.specs.Told.{told};
-ghost use Rattle.accounts.specs.Login.{attempt, digested, tried, login_checks, login};
+ghost use Rattle.accounts.specs.Login.{attempt, digested, tried_entry, tried, login_checks, login};
 ghost use Rattle.accounts.specs.Who.{who_checks, who};
 ghost use Rattle.accounts.specs.SetPassword.{changed, file_image, on_store, in_memory, written, set_checks, set_password};
 
@@ -77,23 +76,18 @@ fn failed(held: LoginRecord, count: usize) -> Attempt
 }
 
 // Compares a password's digest with the one that stands in the record found.
-#[tactic(auto, unfolding(crate::specs::Login::tried, crate::specs::Login::digested))]
-fn compared(
-    held: LoginRecord,
-    table: &[u8],
-    password: &[u8],
-    number: usize,
-    place: usize,
-    count: usize,
-) -> Attempt
+#[tactic(auto, unfolding(crate::specs::Login::digested))]
+fn compared(held: LoginRecord, table: &[u8], password: &[u8], entry: Entry, count: usize) -> Attempt
     requires { count < 2 ^ 63 }
-    ensures { result ≡ tried held table.now (string_of password.now) (At number place count) }
+    ensures { result ≡ tried_entry held table.now (string_of password.now) count (Some entry) }
 {
     let work = digest_counted(password, count);
-    let wanted = parts::piece(table, place, DIGEST_LENGTH);
+    let wanted = parts::piece(table, entry.digest, DIGEST_LENGTH);
     if search::same(&work.digest, wanted) {
         let login = LoginRecord {
-            user: Login::User { place: number },
+            user: Login::User {
+                place: entry.number,
+            },
         };
         return Attempt {
             number: 0,
@@ -108,14 +102,10 @@ fn compared(
 fn tried(held: LoginRecord, table: &[u8], name: &[u8], password: &[u8]) -> Attempt
     ensures { result ≡ tried held table.now (string_of password.now) (find (string_of name.now) table.now) }
 {
-    let found = passwords::find(table, strings::string_of(name));
-    match found {
-        Lookup::At {
-            number,
-            digest,
-            count,
-        } => compared(held, table, password, number, digest, count),
-        Lookup::Nowhere { count } => failed(held, count),
+    let Lookup { entry, count } = passwords::find(table, strings::string_of(name));
+    match entry {
+        Some(entry) => compared(held, table, password, entry, count),
+        None => failed(held, count),
     }
 }
 

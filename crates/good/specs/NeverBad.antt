@@ -1,5 +1,5 @@
 -- No call in a good world answers 216, BAD_STATE.
-use Rattle.std.specs.Prelude.{Bool, cond, List, [], ◌≡◌, refl, ℕ, ltb, length, false}
+use Rattle.std.specs.Prelude.{Bool, cond, List, [], ◌≡◌, refl, ℕ, ltb, length, false, Option, Some, None}
 use Rattle.octets.specs.Lists.{part}
 use Rattle.octets.specs.Same.{same_bytes}
 use Rattle.sha256.specs.Digest.{digest}
@@ -7,7 +7,7 @@ use Rattle.checks.specs.Settle.{by_settle}
 use Rattle.checks.specs.Told.{Told}
 use Rattle.devices.specs.Choice.{by_cond}
 use Rattle.passwords.specs.declared.Lookup.{Lookup}
-use Rattle.passwords.specs.declared.Lookup.TheVariants.{At, Nowhere}
+use Rattle.passwords.specs.declared.Entry.{Entry}
 use Rattle.passwords.specs.Account.{digest_length}
 use Rattle.passwords.specs.PasswordFile.{find}
 use Rattle.state.specs.declared.LoginRecord.{LoginRecord}
@@ -18,7 +18,7 @@ use Rattle.memory.specs.Memory.{load_checks, load, store_checks, store, flush_ch
 use Rattle.database.specs.Database.{configuration}
 use Rattle.accounts.specs.declared.Attempt.{Attempt}
 use Rattle.accounts.specs.Strings.{string_of}
-use Rattle.accounts.specs.Login.{tried, login_checks, login}
+use Rattle.accounts.specs.Login.{tried_entry, tried, login_checks, login}
 use Rattle.accounts.specs.Who.{who_checks, who}
 use Rattle.accounts.specs.SetPassword.{Changed, written, set_checks, set_password}
 use Rattle.terminal.specs.declared.Answer.{Answer}
@@ -34,9 +34,12 @@ use Rattle.good.specs.Numbers.{Other, seen, others, after-other, passed, store-f
 -- a login that goes on to the table
 tried_other : (r : LoginRecord) (table password : List ℕ) (at : Lookup) → Other (tried r table password at).number
 unfolding tried
-tried_other r table password (Nowhere count) = seen 300 refl
-tried_other r table password (At i place count) =
-    by_cond (λ (a : Attempt). Other a.number) (same_bytes (digest password) (part place digest_length table)) (λ e. seen 0 refl) (λ e. seen 300 refl)
+tried_other r table password at = go at.entry
+  where
+    go : (e : Option Entry) → Other (tried_entry r table password at.count e).number
+    go None = seen 300 refl
+    go (Some a) =
+        by_cond (λ (a : Attempt). Other a.number) (same_bytes (digest password) (part a.digest digest_length table)) (λ e. seen 0 refl) (λ e. seen 300 refl)
 
 -- a write to the store that may break off
 broken-other : (t : Bool) → Other (cond t 203 0)

@@ -3,6 +3,7 @@ use Rattle.std.specs.Prelude.{true, false, ◌&&◌, List, [], ◌∷◌, ◌≢
 use Rattle.std.proofs.Common.{sym, ap, ◌∙◌, suc-ne-zero, not-suc-le-zero, le_of_suc-le-suc, arith, leb-true, leb-false, length-take, take-take, take_all}
 use Rattle.std.proofs.Math.Nat.{suc-sub-suc, zero-sub, sub-zero}
 use Rattle.octets.specs.Lists.{part, over, write_at, on_nth}
+use Rattle.octets.specs.Spans.{bytes_of}
 use Rattle.octets.specs.PartLaws.{length_part, length-part_in}
 use Rattle.octets.specs.OnPartLaws.{on_part-same}
 use Rattle.octets.specs.NthLaws.{nth_on_nth-other}
@@ -89,10 +90,11 @@ digest-other i j new file h = rw (record_other i j new file h)
 
 -- ---- by place
 
-length_record : (i : ℕ) (file : List ℕ) → length (record_at i file) ≡ (span_of i file).size
-length_record i file = rw (record_part i file) (length-part_in (span_of i file).at (span_of i file).size file (span_fits i file))
+length_record : (i : ℕ) (file : List ℕ) → length (record_at i file) ≡ (span_of i file).length
+unfolding bytes_of
+length_record i file = rw (record_part i file) (length-part_in (span_of i file).place (span_of i file).length file (span_fits i file))
 
-room : (i : ℕ) (file : List ℕ) → min ((span_of i file).size - digest_start) digest_length ≡ length (digest_at i file)
+room : (i : ℕ) (file : List ℕ) → min ((span_of i file).length - digest_start) digest_length ≡ length (digest_at i file)
 unfolding digest_at digest_of
 room i file =
     let long = length_record i file in
@@ -102,8 +104,8 @@ room i file =
 pub changed-place : (i : ℕ) (new file : List ℕ) → with_digest i new file ≡ write_at (digest_place i file) (take (length (digest_at i file)) new) file
 unfolding with_digest digest_place
 changed-place i new file =
-    let at = (span_of i file).at in
-    let n = (span_of i file).size in
+    let at = (span_of i file).place in
+    let n = (span_of i file).length in
     sym (span_change (changed new) (length-changed new) i file)
     ∙ on_part-same at n (changed new) (write_at digest_start (take digest_length new)) file (changed-write new (part at n file))
     ∙ on_part-write_at at n digest_start (take digest_length new) file

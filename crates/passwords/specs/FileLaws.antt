@@ -1,5 +1,6 @@
 -- How `find` and `well_formed` go on from record to record.
 use Rattle.std.specs.Prelude.{Bool, false, not, ◌&&◌, ◌≡◌, refl, ℕ, ◌+◌, ◌≤◌, ◌<◌, drop, true, List, [], ◌∷◌, leb, ltb, length}
+use Rattle.std.specs.Option.{is_some}
 use Rattle.std.proofs.Common.{sym, ◌∙◌, zero-add, length-drop, take_all, arith, le-leb, lt-ltb, le-ltb, ltb-true, ltb-false}
 use Rattle.std.proofs.Math.Bool.{and-false, and_assoc}
 use Rattle.std.proofs.lemmas.Bool.{lt-leb}
@@ -9,39 +10,40 @@ use Rattle.octets.specs.Same.{same_bytes}
 use Rattle.rows.specs.Records.{chunks}
 use Rattle.rows.specs.LikeLaws.{by_test}
 use Rattle.passwords.specs.declared.Lookup.{Lookup}
-use Rattle.passwords.specs.declared.Lookup.TheVariants.{At, Nowhere}
+use Rattle.octets.specs.Spans.{bytes_of}
+use Rattle.passwords.specs.declared.walk.Reading.{Reading}
 use Rattle.passwords.specs.Account.{digest_start, name, shaped, obeys}
 use Rattle.passwords.specs.Walk.{span_of}
 use Rattle.passwords.specs.WalkLaws.{Taken, span-part}
-use Rattle.passwords.specs.PasswordFile.{all_obey, named, distinct, well_formed, count, all_shaped, sound, find_from, find, record_at}
+use Rattle.passwords.specs.PasswordFile.{all_obey, named, distinct, well_formed, count, all_shaped, sound, in_record, nowhere, find_from, find, record_at}
 
 -- ---- find
 
-pub find_none : (n : List ℕ) (count at : ℕ) (file : List ℕ) → chunks (drop at file) ≡ [] → find_from n count at (chunks (drop at file)) ≡ Nowhere count
+pub find_none : (n : List ℕ) (count at : ℕ) (file : List ℕ) → chunks (drop at file) ≡ [] → find_from n count at (chunks (drop at file)) ≡ nowhere count
 unfolding find_from
 find_none n count at file e = rw e
 
-pub find_here : (n : List ℕ) (count at size raised : ℕ) (file : List ℕ) → Taken file at count size raised → same_bytes (name (part at size file)) n ≡ true
-    → find_from n count at (chunks (drop at file)) ≡ At count (at + digest_start) raised
-unfolding find_from
-find_here n count at size raised file t e = rw (t.walk, e, t.one_more)
+module _ (n : List ℕ) (count at : ℕ) (r : Reading) (behind raised : ℕ) (file : List ℕ) (t : Taken file at count r behind raised) where
+  pub find_here : same_bytes (name (bytes_of file r.span)) n ≡ true
+      → find_from n count at (chunks (drop at file)) ≡ in_record r.number (r.span.place + digest_start) raised
+  unfolding find_from
+  find_here e = rw (t.walk, e, t.one_more, t.numbered, t.stands)
 
-pub find-on : (n : List ℕ) (count at size raised : ℕ) (file : List ℕ) → Taken file at count size raised → same_bytes (name (part at size file)) n ≡ false
-    → find_from n count at (chunks (drop at file)) ≡ find_from n raised (at + size) (chunks (drop (at + size) file))
-unfolding find_from
-find-on n count at size raised file t e = rw (t.walk, e, t.long, t.one_more)
+  pub find-on : same_bytes (name (bytes_of file r.span)) n ≡ false
+      → find_from n count at (chunks (drop at file)) ≡ find_from n raised behind (chunks (drop behind file))
+  unfolding find_from
+  find-on e = rw (t.walk, e, t.one_more, ← t.on)
 
 -- ---- record i
 
-pub record_part : (i : ℕ) (file : List ℕ) → record_at i file ≡ part (span_of i file).at (span_of i file).size file
+pub record_part : (i : ℕ) (file : List ℕ) → record_at i file ≡ bytes_of file (span_of i file)
 unfolding record_at span_of
 record_part i file = span-part file 0 i (chunks file) refl
 
 -- ---- named
 
 unfoldable pub is_found : Lookup → Bool
-is_found (At number digest count) = true
-is_found (Nowhere count) = false
+is_found found = is_some found.entry
 
 named-found : (n : List ℕ) (count at : ℕ) (cs : List (List ℕ)) → is_found (find_from n count at cs) ≡ named n cs
 unfolding is_found find_from named
@@ -94,19 +96,19 @@ module _ (test : List ℕ → List (List ℕ) → Bool) where
   unfolding few_from
   few_none before at file e = rw e
 
-  module _ (before at size raised : ℕ) (file : List ℕ) (t : Taken file at before size raised) where
-    pub few_full : 64 ≤ before → few_from before (chunks (drop at file)) ≡ false
+  module _ (before at : ℕ) (r : Reading) (behind raised : ℕ) (file : List ℕ) (t : Taken file at before r behind raised) where
+    pub few_full : 64 ≤ r.number → few_from before (chunks (drop at file)) ≡ false
     unfolding few_from
-    few_full h = rw (t.walk, le-ltb before 64 h)
+    few_full h = let many : 64 ≤ before = rw t.numbered at h in rw (t.walk, le-ltb before 64 many)
 
-    pub few_fails : before < 64 → test (part at size file) (chunks (drop (at + size) file)) ≡ false → few_from before (chunks (drop at file)) ≡ false
+    pub few_fails : r.number < 64 → test (bytes_of file r.span) (chunks (drop behind file)) ≡ false → few_from before (chunks (drop at file)) ≡ false
     unfolding few_from
-    few_fails h e = rw (t.walk, lt-ltb before 64 h, e)
+    few_fails h e = let few : before < 64 = rw t.numbered at h in rw (t.walk, lt-ltb before 64 few, e)
 
-    pub few_on : before < 64 → test (part at size file) (chunks (drop (at + size) file)) ≡ true
-        → few_from before (chunks (drop at file)) ≡ few_from raised (chunks (drop (at + size) file))
+    pub few_on : r.number < 64 → test (bytes_of file r.span) (chunks (drop behind file)) ≡ true
+        → few_from before (chunks (drop at file)) ≡ few_from raised (chunks (drop behind file))
     unfolding few_from
-    few_on h e = rw (t.walk, lt-ltb before 64 h, e, t.one_more)
+    few_on h e = let few : before < 64 = rw t.numbered at h in rw (t.walk, lt-ltb before 64 few, e, t.one_more)
 
 -- ---- well formed, and sound
 
@@ -167,9 +169,9 @@ sound_few file = rw (← every-fits (chunks file)) (few_all fits (chunks file))
 pub count_none : (before at : ℕ) (file : List ℕ) → chunks (drop at file) ≡ [] → before + length (chunks (drop at file)) ≡ before
 count_none before at file e = rw e (omega arith)
 
-pub count-on : (before at size raised : ℕ) (file : List ℕ) → Taken file at before size raised
-    → before + length (chunks (drop at file)) ≡ raised + length (chunks (drop (at + size) file))
-count-on before at size raised file t = rw (t.walk, t.one_more) (omega arith)
+pub count-on : (before at : ℕ) (r : Reading) (behind raised : ℕ) (file : List ℕ) → Taken file at before r behind raised
+    → before + length (chunks (drop at file)) ≡ raised + length (chunks (drop behind file))
+count-on before at r behind raised file t = rw (t.walk, t.one_more) (omega arith)
 
 -- the rest of a row from a place on
 pub rest_part : (at : ℕ) (l : List ℕ) → part at (length l) l ≡ drop at l

@@ -1,10 +1,9 @@
 -- The password file of a partition (document 01, "Store image and password file"): "At most 64 records, names distinct."
-use Rattle.std.specs.Prelude.{Bool, true, false, cond, not, ◌&&◌, ◌||◌, List, [], ◌∷◌, map, ℕ, ◌+◌, leb, length, get_or}
+use Rattle.std.specs.Prelude.{Bool, true, false, cond, not, ◌&&◌, ◌||◌, List, [], ◌∷◌, map, ℕ, ◌+◌, leb, length, get_or, Some, None}
 use Rattle.octets.specs.Lists.{on_nth}
 use Rattle.octets.specs.Same.{same_bytes}
 use Rattle.rows.specs.Records.{chunks, join}
 use Rattle.passwords.specs.declared.Lookup.{Lookup}
-use Rattle.passwords.specs.declared.Lookup.TheVariants.{At, Nowhere}
 use Rattle.passwords.specs.Account.{digest_start, digest_of, name, shaped, obeys, changed, blanked}
 use Rattle.passwords.specs.Walk.{span_of}
 
@@ -41,11 +40,19 @@ sound file = all_shaped (chunks file) && leb (count file) 64
 
 -- ---- a record by its name
 
+-- in this record, counted from 0, with its digest from this place on; so many records were read
+abbrev pub in_record : ℕ → ℕ → ℕ → Lookup
+in_record number place count = record { entry = Some (record { number = number; digest = place }); count = count }
+
+-- in no record; so many were read
+abbrev pub nowhere : ℕ → Lookup
+nowhere count = record { entry = None; count = count }
+
 -- the first record with this name, of those from place `at` on, where so many records were read before: its number, the place of its digest and "the records read,
 -- up to and with the named one or all of them" (01, Login)
 unfoldable pub find_from : List ℕ → ℕ → ℕ → List (List ℕ) → Lookup
-find_from n before at [] = Nowhere before
-find_from n before at (c ∷ cs) = cond (same_bytes (name c) n) (At before (at + digest_start) (before + 1)) (find_from n (before + 1) (at + length c) cs)
+find_from n before at [] = nowhere before
+find_from n before at (c ∷ cs) = cond (same_bytes (name c) n) (in_record before (at + digest_start) (before + 1)) (find_from n (before + 1) (at + length c) cs)
 
 unfoldable pub find : List ℕ → List ℕ → Lookup
 find n file = find_from n 0 0 (chunks file)
@@ -64,7 +71,7 @@ digest_at i file = digest_of (record_at i file)
 
 -- where its digest stands in the file; behind the file's end where there is no such record
 unfoldable pub digest_place : ℕ → List ℕ → ℕ
-digest_place i file = (span_of i file).at + digest_start
+digest_place i file = (span_of i file).place + digest_start
 
 -- ---- changes
 

@@ -4,9 +4,8 @@ use Rattle.octets.specs.Lists.{part, over, on_part, on_nth}
 use Rattle.octets.specs.Numbers.{little, spelled}
 use Rattle.octets.specs.Same.{same_bytes}
 use Rattle.rows.specs.Records.{payload_length, kind, size, cut, chunks, join, whole}
-use Rattle.passwords.specs.declared.Lookup.TheVariants.{At, Nowhere}
 use Rattle.passwords.specs.Account.{digest_of, name, no_zero, shaped, obeys, changed, zeros, blanked}
-use Rattle.passwords.specs.PasswordFile.{all_obey, named, distinct, well_formed, all_shaped, sound, count, find_from, find, record_at, name_at, digest_at, with_digest, mask_digests}
+use Rattle.passwords.specs.PasswordFile.{all_obey, named, distinct, well_formed, all_shaped, sound, count, find_from, find, record_at, name_at, digest_at, with_digest, mask_digests, in_record, nowhere}
 
 -- ---- the files
 
@@ -96,12 +95,12 @@ counts = refl
 
 -- the number, the digest's place and the records read; a name's beginning is not the name
 pub searches : find (97 ∷ 98 ∷ []) two ∷ find (99 ∷ []) two ∷ find (97 ∷ []) two ∷ find [] two ∷ find (97 ∷ []) [] ∷ []
-    ≡ At 0 6 1 ∷ At 1 46 2 ∷ Nowhere 2 ∷ Nowhere 2 ∷ Nowhere 0 ∷ []
+    ≡ in_record 0 6 1 ∷ in_record 1 46 2 ∷ nowhere 2 ∷ nowhere 2 ∷ nowhere 0 ∷ []
 unfolding opened
 searches = refl
 
 -- a record that the file's end cuts off is read too: 01 never asks that of a file that start has accepted
-pub cut_off : find (120 ∷ []) (take 50 two) ≡ Nowhere 2
+pub cut_off : find (120 ∷ []) (take 50 two) ≡ nowhere 2
 unfolding opened
 cut_off = refl
 

@@ -1,6 +1,6 @@
 -- Demand 1: "A refusal gives its number from document 01". Which numbers 01 gives each move, that no move is answered another, and "Refused counts are 0, save
 -- login's at AUTH_FAILURE".
-use Rattle.std.specs.Prelude.{Bool, true, false, not, ◌||◌, List, [], ◌∷◌, ◌≢◌, ◌≡◌, refl, ℕ, eqb, ltb, length}
+use Rattle.std.specs.Prelude.{Bool, true, false, not, ◌||◌, List, [], ◌∷◌, ◌≢◌, ◌≡◌, refl, ℕ, eqb, ltb, length, Option, Some, None}
 use Rattle.std.proofs.Common.{ap, subst, sym, ◌∙◌}
 use Rattle.std.proofs.Math.Bool.{and-eq-true_iff}
 use Rattle.std.proofs.lemmas.Bool.{false≢true}
@@ -18,11 +18,11 @@ use Rattle.console.specs.ConsoleLaws.{read_next-answers, read_random-answers, wr
 use Rattle.memory.specs.Memory.{load_checks, load, store_checks, store, flush_checks, flush}
 use Rattle.database.specs.Database.{configuration}
 use Rattle.passwords.specs.declared.Lookup.{Lookup}
-use Rattle.passwords.specs.declared.Lookup.TheVariants.{At, Nowhere}
+use Rattle.passwords.specs.declared.Entry.{Entry}
 use Rattle.passwords.specs.Account.{digest_length}
 use Rattle.accounts.specs.declared.Attempt.{Attempt}
 use Rattle.accounts.specs.Strings.{string_of}
-use Rattle.accounts.specs.Login.{tried, login_checks, login}
+use Rattle.accounts.specs.Login.{tried_entry, tried, login_checks, login}
 use Rattle.accounts.specs.Who.{who_checks, who}
 use Rattle.accounts.specs.SetPassword.{Changed, written, set_checks, set_password}
 use Rattle.terminal.specs.declared.Terminal.{Terminal}
@@ -80,9 +80,11 @@ writes-among l broken z h = by_cond (λ (n : ℕ). among n l ≡ true) broken (�
 tried-among : (l : List ℕ) (r : LoginRecord) (table password : List ℕ) (at : Lookup) → among 0 l ≡ true → among 300 l ≡ true
     → among (tried r table password at).number l ≡ true
 unfolding tried
-tried-among l r table password (Nowhere total) z h = h
-tried-among l r table password (At i place total) z h =
-    by_cond (λ (a : Attempt). among a.number l ≡ true) (same_bytes (digest password) (part place digest_length table)) (λ e. z) (λ e. h)
+tried-among l r table password at z h = go at.entry
+  where
+    go : (e : Option Entry) → among (tried_entry r table password at.count e).number l ≡ true
+    go None = h
+    go (Some a) = by_cond (λ (a : Attempt). among a.number l ≡ true) (same_bytes (digest password) (part a.digest digest_length table)) (λ e. z) (λ e. h)
 
 shutdown-among : (t : Terminal) (p : ℕ) (message screens : List ℕ) → among (stops.shutdown t p message screens).answer.number (common []) ≡ true
 unfolding stops.shutdown stops.stopped among
@@ -144,11 +146,15 @@ answer-known w (Fault p device set) = refl
 tried-count : (r : LoginRecord) (table password : List ℕ) (at : Lookup) → (tried r table password at).number ≢ 0 → (tried r table password at).number ≢ 300
     → (tried r table password at).count ≡ 0
 unfolding tried
-tried-count r table password (Nowhere total) = λ h k. absurd (k refl)
-tried-count r table password (At i place total) =
-    by_cond (λ (a : Attempt). a.number ≢ 0 → a.number ≢ 300 → a.count ≡ 0) (same_bytes (digest password) (part place digest_length table))
-    (λ e h k. absurd (h refl))
-    (λ e h k. absurd (k refl))
+tried-count r table password at = go at.entry
+  where
+    go : (e : Option Entry) → (tried_entry r table password at.count e).number ≢ 0 → (tried_entry r table password at.count e).number ≢ 300
+        → (tried_entry r table password at.count e).count ≡ 0
+    go None = λ h k. absurd (k refl)
+    go (Some a) =
+        by_cond (λ (a : Attempt). a.number ≢ 0 → a.number ≢ 300 → a.count ≡ 0) (same_bytes (digest password) (part a.digest digest_length table))
+        (λ e h k. absurd (h refl))
+        (λ e h k. absurd (k refl))
 
 shutdown-count : (t : Terminal) (p : ℕ) (message screens : List ℕ) → (stops.shutdown t p message screens).answer.count ≡ 0
 unfolding stops.shutdown stops.stopped

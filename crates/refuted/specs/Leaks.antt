@@ -1,13 +1,13 @@
 -- Three leaks that demand 3 shuts out. Each is a build that does what the definitions say save for one kind of move, and there it lets something of a password be
 -- seen. For each, two runs that start alike but for the digest of "ab" in partition 0's password file, and receive the same moves, come out different in
 -- something that demand 3 says is the same.
-use Rattle.std.specs.Prelude.{cond, List, [], ◌∷◌, ◌++◌, ◌≢◌, ◌≡◌, refl, ℕ, ◌+◌, eqb, get_or, replicate}
+use Rattle.std.specs.Prelude.{cond, List, [], ◌∷◌, ◌++◌, ◌≢◌, ◌≡◌, refl, ℕ, ◌+◌, eqb, get_or, replicate, Option, Some, None}
 use Rattle.std.proofs.Common.{sym, ap, ◌∙◌, arith}
 use Rattle.octets.specs.Lists.{part}
 use Rattle.sha256.specs.Digest.{digest}
 use Rattle.sha256_examples.specs.Examples.{abc}
 use Rattle.passwords.specs.declared.Lookup.{Lookup}
-use Rattle.passwords.specs.declared.Lookup.TheVariants.{At, Nowhere}
+use Rattle.passwords.specs.declared.Entry.{Entry}
 use Rattle.passwords.specs.Account.{digest_length}
 use Rattle.passwords.specs.PasswordFile.{find}
 use Rattle.state.specs.declared.Login.TheVariants.{Nobody, User}
@@ -34,9 +34,12 @@ same_first (a ∷ k) [] = 0
 same_first (a ∷ k) (b ∷ l) = cond (eqb a b) (1 + same_first k l) 0
 
 -- the digest that a search has found
+abbrev pub digest_of_entry : List ℕ → Option Entry → List ℕ
+digest_of_entry table None = []
+digest_of_entry table (Some e) = part e.digest digest_length table
+
 unfoldable pub digest_found : List ℕ → Lookup → List ℕ
-digest_found table (Nowhere count) = []
-digest_found table (At i place count) = part place digest_length table
+digest_found table found = digest_of_entry table found.entry
 
 -- at AUTH_FAILURE, the count also tells how many bytes of the two digests were found the same before one differed
 unfoldable pub step_leaking_count : Build

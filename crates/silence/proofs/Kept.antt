@@ -1,5 +1,5 @@
 -- q's own login, who and set-password behind the mask that keeps q's login record: what they answer hangs on no digest, but for a login's number.
-use Rattle.std.specs.Prelude.{Bool, true, false, not, ◌&&◌, List, [], ◌∷◌, ◌≢◌, ◌≡◌, refl, ℕ, eqb, length}
+use Rattle.std.specs.Prelude.{Bool, true, false, not, ◌&&◌, List, [], ◌∷◌, ◌≢◌, ◌≡◌, refl, ℕ, eqb, length, Option, Some, None}
 use Rattle.std.proofs.Common.{sym, ◌∙◌, arith, ne_eqb}
 use Rattle.std.proofs.Math.Bool.{and-eq-true_iff}
 use Rattle.std.proofs.lemmas.Bool.{eqb-false, not-true}
@@ -13,7 +13,7 @@ use Rattle.sha256.specs.Digest.{digest}
 use Rattle.state.specs.declared.LoginRecord.{LoginRecord}
 use Rattle.guard.specs.Guard.{guard}
 use Rattle.passwords.specs.declared.Lookup.{Lookup}
-use Rattle.passwords.specs.declared.Lookup.TheVariants.{At, Nowhere}
+use Rattle.passwords.specs.declared.Entry.{Entry}
 use Rattle.passwords.specs.Account.{digest_length}
 use Rattle.passwords.specs.PasswordFile.{find, mask_digests}
 use Rattle.passwords.specs.SameLaws.{users-sound, users-count}
@@ -21,7 +21,7 @@ use Rattle.passwords.specs.MaskLaws.{masked_users, mask-length, mask-find}
 use Rattle.accounts.specs.declared.Attempt.{Attempt}
 use Rattle.accounts.specs.Strings.{is_string, string_of}
 use Rattle.accounts.specs.Users.{readable}
-use Rattle.accounts.specs.Login.{attempt, tried, login_checks, login}
+use Rattle.accounts.specs.Login.{attempt, tried_entry, tried, login_checks, login}
 use Rattle.accounts.specs.SetPassword.{Changed, written, set_checks, set_password}
 use Rattle.accounts.specs.WorkLaws.{one_block}
 use Rattle.accounts.specs.AccountLaws.{who_masked}
@@ -37,7 +37,7 @@ use Rattle.silence.specs.Worlds.{mask_answer, mask_outcome}
 use Rattle.silence.proofs.Worlds.{settle-map}
 use Rattle.silence.proofs.Memory.{masked_differs}
 use Rattle.silence.proofs.Commute.{filled, answered}
-use Rattle.silence.specs.Kept.{reported, shown_login}
+use Rattle.silence.specs.Kept.{reported_entry, reported, shown_login}
 
 -- with the login record kept the whole terminal is seen
 pub kept-terminal : (q : ℕ) (t : Terminal) → mask_terminal true q t ≡ t
@@ -100,18 +100,26 @@ set-number n r pw other taken file table hidden blank e long =
 
 refusal-reported : (m : ℕ) (r : LoginRecord) (at : Lookup) → m ≢ 0 → m ≢ 300 → attempt m 0 r ≡ reported m r at
 unfolding reported
-refusal-reported m r (Nowhere count) h k = rw (ne_eqb m 300 k)
-refusal-reported m r (At i place count) h k = rw (ne_eqb m 0 h, ne_eqb m 300 k)
+refusal-reported m r at h k = go at.entry
+  where
+    go : (e : Option Entry) → attempt m 0 r ≡ reported_entry m r at.count e
+    go None = rw (ne_eqb m 300 k)
+    go (Some a) = rw (ne_eqb m 0 h, ne_eqb m 300 k)
 
 tried-reported : (r : LoginRecord) (table pw : List ℕ) (at : Lookup) → tried r table (string_of pw) at ≡ reported (tried r table (string_of pw) at).number r at
 unfolding tried reported
-tried-reported r table pw (Nowhere count) = refl
-tried-reported r table pw (At i place count) = go (same_bytes (digest (string_of pw)) (part place digest_length table)) refl
+tried-reported r table pw at = by_entry at.entry
   where
-    go : (b : Bool) → same_bytes (digest (string_of pw)) (part place digest_length table) ≡ b
-        → tried r table (string_of pw) (At i place count) ≡ reported (tried r table (string_of pw) (At i place count)).number r (At i place count)
-    go true e = rw (e, one_block pw)
-    go false e = rw (e, one_block pw)
+    by_entry : (f : Option Entry)
+        → tried_entry r table (string_of pw) at.count f ≡ reported_entry (tried_entry r table (string_of pw) at.count f).number r at.count f
+    by_entry None = refl
+    by_entry (Some a) = go (same_bytes (digest (string_of pw)) (part a.digest digest_length table)) refl
+      where
+        go : (b : Bool) → same_bytes (digest (string_of pw)) (part a.digest digest_length table) ≡ b
+            → tried_entry r table (string_of pw) at.count (Some a)
+            ≡ reported_entry (tried_entry r table (string_of pw) at.count (Some a)).number r at.count (Some a)
+        go true e = rw (e, one_block pw)
+        go false e = rw (e, one_block pw)
 
 -- no check of a list gives the number k
 unfoldable without : ℕ → List Check → Bool

@@ -8,7 +8,6 @@
 ghost use Rattle.std.specs.Prelude.{◌≡◌, ◌<◌, ◌-◌, length, IfOk};
 
 use octets::{numbers, parts};
-use passwords::Lookup;
 use std::io;
 use std::io::{Read, Write};
 
@@ -80,20 +79,16 @@ fn passwords_line(rt: &HostRuntime, bytes: &[u8], name: &[u8]) -> io::Result<()>
         say(rt, b"passwords malformed, ")?;
     }
     say(rt, name)?;
-    match passwords::find(bytes, name) {
-        Lookup::At {
-            number: record,
-            digest,
-            count,
-        } => {
-            number(rt, b" record ", record)?;
-            number(rt, b", digest at ", digest)?;
-            number(rt, b", ", count)?;
+    let found = passwords::find(bytes, name);
+    match found.entry {
+        Some(entry) => {
+            number(rt, b" record ", entry.number)?;
+            number(rt, b", digest at ", entry.digest)?;
+            say(rt, b", ")?;
         }
-        Lookup::Nowhere { count } => {
-            number(rt, b" nowhere, ", count)?;
-        }
+        None => say(rt, b" nowhere, ")?,
     }
+    number(rt, b"", found.count)?;
     say(rt, b" read\n")
 }
 

@@ -1,33 +1,38 @@
-use Rattle.std.proofs.Common.{sym, ◌∙◌, arith, length, zero-add}
+use Rattle.std.proofs.Common.{◌≡◌, [], sym, ◌∙◌, arith, length, drop, zero-add}
 use Rattle.rows.specs.Records.{chunks}
 use Rattle.passwords.specs.WalkLaws.{Taken, taken, ended}
 use Rattle.passwords.specs.PasswordFile.{count}
 use Rattle.passwords.specs.FileLaws.{count_none, count-on}
 use Rattle.passwords.proofs.count.Goals as goal
-use Rattle.passwords.proofs.count.Goals.{In-Record}
+use Rattle.passwords.proofs.count.Goals.{In-Some, In_default}
 
 -- what is known once a record was read
-took : (c : In-Record)
-    → Taken c.args.file.now c.loop-size.at c.loop-size.before
-    c.in-Record.size c.in-Record.count
-took c = taken _ _ _ _ _ (sym c.read-reading.ensures ∙ c.in-Record.is)
+took : (c : In-Some)
+    → Taken c.args.file.now c.loop-reading.records.at c.loop-reading.records.count c.in-Some._reading c.next.new.self.at c.next.new.self.count
+took c = rw c.loop-reading.invariant.0 at (taken _ _ _ _ _ _ _ c.next.ensures.found c.in-Some.is c.next.ensures.at c.next.ensures.count)
 
-pub loop-size-init : goal.loop-size-init
+-- and once there was none
+past : (c : In_default) → (chunks (drop c.loop-reading.records.at c.args.file.now) ≡ []) × (c.next.new.self.at ≡ c.loop-reading.records.at) × (c.next.new.self.count ≡ c.loop-reading.records.count)
+past c = rw c.loop-reading.invariant.0 at (ended _ _ _ _ _ _ c.next.ensures.found c.in_default.is c.next.ensures.at c.next.ensures.count)
+
+pub loop-reading-init : goal.loop-reading-init
 unfolding count
-loop-size-init c = (sym (zero-add (length (chunks c.args.file.now))), omega arith, omega arith)
+loop-reading-init c = let new = c.new-records.ensures in
+    (new.file, omega arith, omega arith, rw (new.at, new.count) (sym (zero-add (length (chunks c.args.file.now)))))
 
-pub returns-in_default : goal.returns-in_default
-returns-in_default c = let loop = c.loop-size in
-    let file = c.args.file.now in
-    let end = ended file loop.at loop.before (sym c.read-reading.ensures ∙ c.in_default.is) in
-    sym (loop.invariant.0 ∙ count_none loop.before loop.at file end)
+pub returns : goal.returns
+returns c = let p = past c in
+    rw p.2 (sym (c.loop-reading.invariant.3 ∙ count_none c.loop-reading.records.count c.loop-reading.records.at c.args.file.now p.0))
 
-pub overflow_add-at : goal.overflow_add-at
-overflow_add-at c = let t = took c in record { fits = omega arith }
+pub loop-reading-smaller : goal.loop-reading-smaller
+loop-reading-smaller c = let t = took c in
+    let some = t.some in
+    let inside = t.inside in
+    omega arith
 
-pub loop-size-smaller : goal.loop-size-smaller
-loop-size-smaller c = let t = took c in omega arith
-
-pub loop-size-preserved : goal.loop-size-preserved
-loop-size-preserved c = let t = took c in
-    (c.loop-size.invariant.0 ∙ count-on _ _ _ _ _ t, omega arith, omega arith)
+pub loop-reading-preserved : goal.loop-reading-preserved
+loop-reading-preserved c = let t = took c in
+    let some = t.some in
+    let inside = t.inside in
+    let more = t.one_more in
+    (c.next.ensures.file ∙ c.loop-reading.invariant.0, omega arith, omega arith, c.loop-reading.invariant.3 ∙ count-on _ _ _ _ _ _ t)

@@ -1,40 +1,56 @@
-use Rattle.std.proofs.Common.{refl, sym, ◌∙◌, arith}
+use Rattle.std.proofs.Common.{◌≡◌, [], sym, ◌∙◌, arith, refl, drop}
+use Rattle.rows.specs.Records.{chunks}
 use Rattle.passwords.specs.WalkLaws.{Taken, taken, ended}
 use Rattle.passwords.specs.PasswordFile.{find}
 use Rattle.passwords.specs.FileLaws.{find_none, find_here, find-on}
 use Rattle.passwords.proofs.find.Goals as goal
-use Rattle.passwords.proofs.find.Goals.{In-Record}
+use Rattle.passwords.proofs.find.Goals.{In-Some, In_default}
 
 -- what is known once a record was read
-took : (c : In-Record)
-    → Taken c.args.file.now c.loop-size.at c.loop-size.before
-    c.in-Record.size c.in-Record.count
-took c = taken _ _ _ _ _ (sym c.read-reading.ensures ∙ c.in-Record.is)
+took : (c : In-Some)
+    → Taken c.args.file.now c.loop-reading.records.at c.loop-reading.records.count c.in-Some.reading c.next.new.self.at c.next.new.self.count
+took c = rw c.loop-reading.invariant.0 at (taken _ _ _ _ _ _ _ c.next.ensures.found c.in-Some.is c.next.ensures.at c.next.ensures.count)
 
-pub loop-size-init : goal.loop-size-init
+-- and once there was none
+past : (c : In_default)
+    → (chunks (drop c.loop-reading.records.at c.args.file.now) ≡ []) × (c.next.new.self.at ≡ c.loop-reading.records.at) × (c.next.new.self.count ≡ c.loop-reading.records.count)
+past c = rw c.loop-reading.invariant.0 at (ended _ _ _ _ _ _ c.next.ensures.found c.in_default.is c.next.ensures.at c.next.ensures.count)
+
+pub loop-reading-init : goal.loop-reading-init
 unfolding find
-loop-size-init c = (refl, omega arith, omega arith)
+loop-reading-init c = let new = c.new-records.ensures in
+    (new.file, omega arith, omega arith, rw (new.at, new.count) refl)
 
-pub returns-in_default : goal.returns-in_default
-returns-in_default c = let loop = c.loop-size in
-    let args = c.args in
-    let end = ended args.file.now loop.at loop.before (sym c.read-reading.ensures ∙ c.in_default.is) in
-    sym (loop.invariant.0 ∙ find_none args.name.now loop.before loop.at args.file.now end)
+pub returns : goal.returns
+returns c = let p = past c in
+    rw p.2 (sym (c.loop-reading.invariant.3 ∙ find_none c.args.name.now c.loop-reading.records.count c.loop-reading.records.at c.args.file.now p.0))
 
-pub overflow_add-result : goal.overflow_add-result
-overflow_add-result c = let t = took (goal.at.overflow_add-result c).In-Record in record { fits = omega arith }
+pub overflow_add-entry : goal.overflow_add-entry
+overflow_add-entry c =
+    let t = took (goal.at.overflow_add-entry c).In-Some in
+    let stands = t.stands in
+    let some = t.some in
+    let inside = t.inside in
+    record { fits = omega arith }
 
 pub returns-then-same : goal.returns-then-same
-returns-then-same c = let same = rw (c.name.ensures, c.piece-entry.ensures) at (sym c.same.ensures ∙ c.if-same.true) in
-    sym (c.loop-size.invariant.0 ∙ find_here _ _ _ _ _ _ (took (goal.at.returns-then-same c).In-Record) same)
+returns-then-same c =
+    let same = rw (c.name.ensures, c.of.ensures) at (sym c.same.ensures ∙ c.if-same.true) in
+    let t = took (goal.at.returns-then-same c).In-Some in
+    sym (c.loop-reading.invariant.3 ∙ find_here _ _ _ _ _ _ _ t same)
 
-pub overflow_add-at : goal.overflow_add-at
-overflow_add-at c = let t = took (goal.at.overflow_add-at c).In-Record in record { fits = omega arith }
+pub loop-reading-smaller : goal.loop-reading-smaller
+loop-reading-smaller c =
+    let t = took (goal.at.loop-reading-smaller c).In-Some in
+    let some = t.some in
+    let inside = t.inside in
+    omega arith
 
-pub loop-size-smaller : goal.loop-size-smaller
-loop-size-smaller c = let t = took (goal.at.loop-size-smaller c).In-Record in omega arith
-
-pub loop-size-preserved : goal.loop-size-preserved
-loop-size-preserved c = let same = rw (c.name.ensures, c.piece-entry.ensures) at (sym c.same.ensures ∙ c.if-same.false) in
-    let t = took (goal.at.loop-size-preserved c).In-Record in
-    (c.loop-size.invariant.0 ∙ find-on _ _ _ _ _ _ t same, omega arith, omega arith)
+pub loop-reading-preserved : goal.loop-reading-preserved
+loop-reading-preserved c =
+    let t = took (goal.at.loop-reading-preserved c).In-Some in
+    let some = t.some in
+    let inside = t.inside in
+    let more = t.one_more in
+    let same = rw (c.name.ensures, c.of.ensures) at (sym c.same.ensures ∙ c.if-same.false) in
+    (c.next.ensures.file ∙ c.loop-reading.invariant.0, omega arith, omega arith, c.loop-reading.invariant.3 ∙ find-on _ _ _ _ _ _ _ t same)

@@ -4,8 +4,8 @@ use Rattle.rows.specs.Records.{chunks}
 use Rattle.passwords.specs.PasswordFile.{find_from, find}
 use Rattle.passwords.proofs.find.Given as goal
 
-abbrev pub invariant-loop-size : goal.invariant-loop-size
-invariant-loop-size l = (find l.name l.file ≡ find_from l.name l.before l.at (chunks (drop l.at l.file))) × (l.before ≤ l.at) × (l.at ≤ length l.file)
+abbrev pub invariant-loop-reading : goal.invariant-loop-reading
+invariant-loop-reading l = (l.records.file.now ≡ l.file) × (l.records.count ≤ l.records.at) × (l.records.at ≤ length l.file) × (find l.name l.file ≡ find_from l.name l.records.count l.records.at (chunks (drop l.records.at l.file)))
 
-abbrev pub decreases-loop-size : goal.decreases-loop-size
-decreases-loop-size l = length l.file - l.at
+abbrev pub decreases-loop-reading : goal.decreases-loop-reading
+decreases-loop-reading l = length l.file - l.records.at

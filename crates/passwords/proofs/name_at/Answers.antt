@@ -5,4 +5,4 @@ use Rattle.passwords.proofs.name_at.Goals as goal
 
 pub returns : goal.returns
 unfolding name_at
-returns c = rw (c.name.ensures, c.piece.ensures, c.locate-span.ensures, record_part c.args.i c.args.file.now)
+returns c = rw (c.name.ensures, c.of.ensures, c.locate.ensures, record_part c.args.i c.args.file.now)

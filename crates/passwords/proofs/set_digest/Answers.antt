@@ -4,7 +4,7 @@ use Rattle.passwords.specs.PasswordFile.{with_digest}
 use Rattle.std.proofs.Common.{length, drop-drop, arith, ℕ, ◌+◌, ◌-◌, ◌≤◌, List, ◌≡◌}
 use borrow.Rule.Slice.PartMut.{mid_of, put_mid}
 use Rattle.octets.specs.Lists.{part, on_part}
-use Rattle.passwords.specs.declared.walk.Span.{Span}
+use Rattle.octets.specs.declared.span.Span.{Span}
 use Rattle.passwords.specs.Account.{changed}
 use Rattle.passwords.specs.AccountLaws.{length-changed}
 use Rattle.passwords.specs.Walk.{span_of}
@@ -15,18 +15,18 @@ part-changed : (at n : ℕ) (new file : List ℕ) → put_mid at n file (changed
 unfolding on_part part
 part-changed at n new file = rw (drop-drop n at file)
 
-placed : (i : ℕ) (r : Span) (new file ys : List ℕ) → r ≡ span_of i file → ys ≡ changed new (mid_of r.at (r.at + r.size - r.at) file)
-    → put_mid r.at (r.at + r.size - r.at) file ys ≡ with_digest i new file
+placed : (i : ℕ) (r : Span) (new file ys : List ℕ) → r ≡ span_of i file → ys ≡ changed new (mid_of r.place (r.place + r.length - r.place) file)
+    → put_mid r.place (r.place + r.length - r.place) file ys ≡ with_digest i new file
 unfolding with_digest
 placed i r new file ys p q =
-    let count : r.at + r.size - r.at ≡ r.size = omega arith in
-    rw (q, count, part-changed r.at r.size new file, p) (span_change (changed new) (length-changed new) i file)
+    let count : r.place + r.length - r.place ≡ r.length = omega arith in
+    rw (q, count, part-changed r.place r.length new file, p) (span_change (changed new) (length-changed new) i file)
 
 pub overflow_add-end : goal.overflow_add-end
-overflow_add-end c = let h : c.locate-span.result.at + c.locate-span.result.size ≤ length c.args.file.now = rw c.locate-span.ensures (span_fits c.args.i c.args.file.now) in record { fits = omega arith }
+overflow_add-end c = let h : c.locate-span.result.place + c.locate-span.result.length ≤ length c.args.file.now = rw c.locate-span.ensures (span_fits c.args.i c.args.file.now) in record { fits = omega arith }
 
 pub slice_bounds-change-end : goal.slice_bounds-change-end
-slice_bounds-change-end c = let h : c.locate-span.result.at + c.locate-span.result.size ≤ length c.args.file.now = rw c.locate-span.ensures (span_fits c.args.i c.args.file.now) in omega arith
+slice_bounds-change-end c = let h : c.locate-span.result.place + c.locate-span.result.length ≤ length c.args.file.now = rw c.locate-span.ensures (span_fits c.args.i c.args.file.now) in omega arith
 
 pub returns : goal.returns
 returns c = let args = c.args in

@@ -1,38 +1,51 @@
-use Rattle.std.proofs.Common.{sym, ◌∙◌, arith}
+use Rattle.std.proofs.Common.{◌≡◌, [], sym, ◌∙◌, arith, drop}
+use Rattle.rows.specs.Records.{chunks}
 use Rattle.passwords.specs.WalkLaws.{Taken, taken, ended}
 use Rattle.passwords.specs.FileLaws.{fits, sound_few, few_none, few_full, few_fails, few_on}
 use Rattle.passwords.proofs.sound.Goals as goal
-use Rattle.passwords.proofs.sound.Goals.{In-Record}
+use Rattle.passwords.proofs.sound.Goals.{In-Some, In_default}
 
 -- what is known once a record was read
-took : (c : In-Record)
-    → Taken c.args.file.now c.loop-size.at c.loop-size.before
-    c.in-Record.size c.in-Record.count
-took c = taken _ _ _ _ _ (sym c.read-reading.ensures ∙ c.in-Record.is)
+took : (c : In-Some)
+    → Taken c.args.file.now c.loop-reading.records.at c.loop-reading.records.count c.in-Some.reading c.next.new.self.at c.next.new.self.count
+took c = rw c.loop-reading.invariant.0 at (taken _ _ _ _ _ _ _ c.next.ensures.found c.in-Some.is c.next.ensures.at c.next.ensures.count)
 
-pub loop-size-init : goal.loop-size-init
-loop-size-init c = (sound_few c.args.file.now, omega arith, omega arith)
+-- and once there was none
+past : (c : In_default)
+    → (chunks (drop c.loop-reading.records.at c.args.file.now) ≡ []) × (c.next.new.self.at ≡ c.loop-reading.records.at) × (c.next.new.self.count ≡ c.loop-reading.records.count)
+past c = rw c.loop-reading.invariant.0 at (ended _ _ _ _ _ _ c.next.ensures.found c.in_default.is c.next.ensures.at c.next.ensures.count)
 
-pub returns-in_default : goal.returns-in_default
-returns-in_default c = let loop = c.loop-size in
-    let file = c.args.file.now in
-    let end = ended file loop.at loop.before (sym c.read-reading.ensures ∙ c.in_default.is) in
-    sym (loop.invariant.0 ∙ few_none fits loop.before loop.at file end)
+pub loop-reading-init : goal.loop-reading-init
+loop-reading-init c = let new = c.new-records.ensures in
+    (new.file, omega arith, omega arith, rw (new.at, new.count) (sound_few c.args.file.now))
 
-pub returns-then-before-ge-MOST_RECORDS : goal.returns-then-before-ge-MOST_RECORDS
-returns-then-before-ge-MOST_RECORDS c = sym (c.loop-size.invariant.0 ∙ few_full fits _ _ _ _ _ (took (goal.at.returns-then-before-ge-MOST_RECORDS c).In-Record) c.if-before-ge-MOST_RECORDS.true)
+pub returns : goal.returns
+returns c = sym (c.loop-reading.invariant.3 ∙ few_none fits c.loop-reading.records.count c.loop-reading.records.at c.args.file.now (past c).0)
+
+pub returns-then-reading-ge-MOST_RECORDS : goal.returns-then-reading-ge-MOST_RECORDS
+returns-then-reading-ge-MOST_RECORDS c =
+    let t = took (goal.at.returns-then-reading-ge-MOST_RECORDS c).In-Some in
+    sym (c.loop-reading.invariant.3 ∙ few_full fits _ _ _ _ _ _ t c.if-reading-ge-MOST_RECORDS.true)
 
 pub returns-then-not-shaped : goal.returns-then-not-shaped
-returns-then-not-shaped c = let bad = rw c.piece.ensures at (sym c.shaped.ensures ∙ c.if-not-shaped.true) in
-    sym (c.loop-size.invariant.0 ∙ few_fails fits _ _ _ _ _ (took (goal.at.returns-then-not-shaped c).In-Record) c.if-before-ge-MOST_RECORDS.false bad)
+returns-then-not-shaped c =
+    let t = took (goal.at.returns-then-not-shaped c).In-Some in
+    let bad = rw c.of.ensures at (sym c.shaped.ensures ∙ c.if-not-shaped.true) in
+    sym (c.loop-reading.invariant.3 ∙ few_fails fits _ _ _ _ _ _ t c.if-reading-ge-MOST_RECORDS.false bad)
 
-pub overflow_add-at : goal.overflow_add-at
-overflow_add-at c = let t = took (goal.at.overflow_add-at c).In-Record in record { fits = omega arith }
+pub loop-reading-smaller : goal.loop-reading-smaller
+loop-reading-smaller c =
+    let t = took (goal.at.loop-reading-smaller c).In-Some in
+    let some = t.some in
+    let inside = t.inside in
+    omega arith
 
-pub loop-size-smaller : goal.loop-size-smaller
-loop-size-smaller c = let t = took (goal.at.loop-size-smaller c).In-Record in omega arith
-
-pub loop-size-preserved : goal.loop-size-preserved
-loop-size-preserved c = let t = took (goal.at.loop-size-preserved c).In-Record in
-    let fitting = rw c.piece.ensures at (sym c.shaped.ensures ∙ c.if-not-shaped.false) in
-    (c.loop-size.invariant.0 ∙ few_on fits _ _ _ _ _ t c.if-before-ge-MOST_RECORDS.false fitting, omega arith, omega arith)
+pub loop-reading-preserved : goal.loop-reading-preserved
+loop-reading-preserved c =
+    let t = took (goal.at.loop-reading-preserved c).In-Some in
+    let some = t.some in
+    let inside = t.inside in
+    let more = t.one_more in
+    let fitting = rw c.of.ensures at (sym c.shaped.ensures ∙ c.if-not-shaped.false) in
+    let on = few_on fits _ _ _ _ _ _ t c.if-reading-ge-MOST_RECORDS.false fitting in
+    (c.next.ensures.file ∙ c.loop-reading.invariant.0, omega arith, omega arith, c.loop-reading.invariant.3 ∙ on)

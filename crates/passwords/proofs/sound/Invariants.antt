@@ -5,8 +5,8 @@ use Rattle.passwords.specs.PasswordFile.{sound}
 use Rattle.passwords.specs.FileLaws.{few_from, fits}
 use Rattle.passwords.proofs.sound.Given as goal
 
-abbrev pub invariant-loop-size : goal.invariant-loop-size
-invariant-loop-size l = (sound l.file ≡ few_from fits l.before (chunks (drop l.at l.file))) × (l.before ≤ l.at) × (l.at ≤ length l.file)
+abbrev pub invariant-loop-reading : goal.invariant-loop-reading
+invariant-loop-reading l = (l.records.file.now ≡ l.file) × (l.records.count ≤ l.records.at) × (l.records.at ≤ length l.file) × (sound l.file ≡ few_from fits l.records.count (chunks (drop l.records.at l.file)))
 
-abbrev pub decreases-loop-size : goal.decreases-loop-size
-decreases-loop-size l = length l.file - l.at
+abbrev pub decreases-loop-reading : goal.decreases-loop-reading
+decreases-loop-reading l = length l.file - l.records.at

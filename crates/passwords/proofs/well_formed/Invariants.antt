@@ -5,8 +5,8 @@ use Rattle.passwords.specs.PasswordFile.{well_formed}
 use Rattle.passwords.specs.FileLaws.{few_from, good}
 use Rattle.passwords.proofs.well_formed.Given as goal
 
-abbrev pub invariant-loop-size : goal.invariant-loop-size
-invariant-loop-size l = (well_formed l.file ≡ few_from good l.before (chunks (drop l.at l.file))) × (l.before ≤ l.at) × (l.at ≤ length l.file)
+abbrev pub invariant-loop-reading : goal.invariant-loop-reading
+invariant-loop-reading l = (l.records.file.now ≡ l.file) × (l.records.count ≤ l.records.at) × (l.records.at ≤ length l.file) × (well_formed l.file ≡ few_from good l.records.count (chunks (drop l.records.at l.file)))
 
-abbrev pub decreases-loop-size : goal.decreases-loop-size
-decreases-loop-size l = length l.file - l.at
+abbrev pub decreases-loop-reading : goal.decreases-loop-reading
+decreases-loop-reading l = length l.file - l.records.at

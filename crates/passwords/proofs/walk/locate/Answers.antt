@@ -1,37 +1,50 @@
-use Rattle.std.proofs.Common.{◌≡◌, sym, ◌∙◌, suc, ◌-◌, arith}
+use Rattle.std.proofs.Common.{◌≡◌, [], sym, ◌∙◌, suc, ◌-◌, arith, drop}
+use Rattle.rows.specs.Records.{chunks}
 use Rattle.std.proofs.Math.Nat.{sub-zero}
 use Rattle.passwords.specs.WalkLaws.{Taken, taken, ended, span_none, span_here, span-on}
 use Rattle.passwords.specs.Walk.{span_of}
 use Rattle.passwords.proofs.walk.locate.Goals as goal
-use Rattle.passwords.proofs.walk.locate.Goals.{In-Record}
+use Rattle.passwords.proofs.walk.locate.Goals.{In-Some, In_default}
 
 -- what is known once a record was read
-took : (c : In-Record)
-    → Taken c.args.file.now c.loop-size.at c.loop-size.before
-    c.in-Record.size c.in-Record.count
-took c = taken _ _ _ _ _ (sym c.read-reading.ensures ∙ c.in-Record.is)
+took : (c : In-Some)
+    → Taken c.args.file.now c.loop-reading.records.at c.loop-reading.records.count c.in-Some.reading c.next.new.self.at c.next.new.self.count
+took c = rw c.loop-reading.invariant.0 at (taken _ _ _ _ _ _ _ c.next.ensures.found c.in-Some.is c.next.ensures.at c.next.ensures.count)
 
-pub loop-size-init : goal.loop-size-init
+-- and once there was none
+past : (c : In_default)
+    → (chunks (drop c.loop-reading.records.at c.args.file.now) ≡ []) × (c.next.new.self.at ≡ c.loop-reading.records.at) × (c.next.new.self.count ≡ c.loop-reading.records.count)
+past c = rw c.loop-reading.invariant.0 at (ended _ _ _ _ _ _ c.next.ensures.found c.in_default.is c.next.ensures.at c.next.ensures.count)
+
+pub loop-reading-init : goal.loop-reading-init
 unfolding span_of
-loop-size-init c = (rw sub-zero, omega arith, omega arith, omega arith)
+loop-reading-init c = let new = c.new-records.ensures in
+    (new.file, omega arith, omega arith, rw (new.at, new.count, sub-zero), omega arith)
 
-pub returns-in_default : goal.returns-in_default
-returns-in_default c = let loop = c.loop-size in
-    let args = c.args in
-    let end = ended args.file.now loop.at loop.before (sym c.read-reading.ensures ∙ c.in_default.is) in
-    sym (loop.invariant.0 ∙ span_none args.file.now loop.at (args.i - loop.before) end)
+pub returns : goal.returns
+returns c = let p = past c in
+    rw p.1 (sym (c.loop-reading.invariant.3 ∙ span_none c.args.file.now c.loop-reading.records.at (c.args.i - c.loop-reading.records.count) p.0))
 
-pub returns-then-before-i : goal.returns-then-before-i
-returns-then-before-i c = let z : c.args.i - c.loop-size.before ≡ 0 = omega arith in
-    sym (c.loop-size.invariant.0 ∙ rw z (span_here _ _ _ _ _ (took (goal.at.returns-then-before-i c).In-Record)))
+pub returns-then-reading-i : goal.returns-then-reading-i
+returns-then-reading-i c =
+    let t = took (goal.at.returns-then-reading-i c).In-Some in
+    let n = t.numbered in
+    let z : c.args.i - c.loop-reading.records.count ≡ 0 = omega arith in
+    sym (c.loop-reading.invariant.3 ∙ rw z (span_here _ _ _ _ _ _ t))
 
-pub overflow_add-at : goal.overflow_add-at
-overflow_add-at c = let t = took (goal.at.overflow_add-at c).In-Record in record { fits = omega arith }
+pub loop-reading-smaller : goal.loop-reading-smaller
+loop-reading-smaller c =
+    let t = took (goal.at.loop-reading-smaller c).In-Some in
+    let some = t.some in
+    let inside = t.inside in
+    omega arith
 
-pub loop-size-smaller : goal.loop-size-smaller
-loop-size-smaller c = let t = took (goal.at.loop-size-smaller c).In-Record in omega arith
-
-pub loop-size-preserved : goal.loop-size-preserved
-loop-size-preserved c = let t = took (goal.at.loop-size-preserved c).In-Record in
-    let e : c.args.i - c.loop-size.before ≡ suc (c.args.i - c.in-Record.count) = omega arith in
-    (c.loop-size.invariant.0 ∙ rw e (span-on _ _ _ _ _ _ t), omega arith, omega arith, omega arith)
+pub loop-reading-preserved : goal.loop-reading-preserved
+loop-reading-preserved c =
+    let t = took (goal.at.loop-reading-preserved c).In-Some in
+    let some = t.some in
+    let inside = t.inside in
+    let more = t.one_more in
+    let n = t.numbered in
+    let e : c.args.i - c.loop-reading.records.count ≡ suc (c.args.i - c.next.new.self.count) = omega arith in
+    (c.next.ensures.file ∙ c.loop-reading.invariant.0, omega arith, omega arith, c.loop-reading.invariant.3 ∙ rw e (span-on _ _ _ _ _ _ _ t), omega arith)

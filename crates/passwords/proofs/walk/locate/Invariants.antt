@@ -4,8 +4,8 @@ use Rattle.rows.specs.Records.{chunks}
 use Rattle.passwords.specs.Walk.{span_from, span_of}
 use Rattle.passwords.proofs.walk.locate.Given as goal
 
-abbrev pub invariant-loop-size : goal.invariant-loop-size
-invariant-loop-size l = (span_of l.i l.file ≡ span_from l.at (l.i - l.before) (chunks (drop l.at l.file))) × (l.before ≤ l.i) × (l.before ≤ l.at) × (l.at ≤ length l.file)
+abbrev pub invariant-loop-reading : goal.invariant-loop-reading
+invariant-loop-reading l = (l.records.file.now ≡ l.file) × (l.records.count ≤ l.records.at) × (l.records.at ≤ length l.file) × (span_of l.i l.file ≡ span_from l.records.at (l.i - l.records.count) (chunks (drop l.records.at l.file))) × (l.records.count ≤ l.i)
 
-abbrev pub decreases-loop-size : goal.decreases-loop-size
-decreases-loop-size l = length l.file - l.at
+abbrev pub decreases-loop-reading : goal.decreases-loop-reading
+decreases-loop-reading l = length l.file - l.records.at

@@ -1,0 +1,2 @@
+-- Lemmas that proofs of functions use.
+mod Told
