@@ -35,10 +35,11 @@ fn first(image: &[u8], part: Span) -> usize
 }
 
 // Whether these are a good record's numbers: its kind, its path's length and its payload's.
+#[tactic(auto, unfolding(crate::specs::Files::good_numbers))]
 fn good_numbers(kind: u32, title: usize, count: usize) -> bool
     ensures { result ≡ good_numbers kind title count }
 {
-    (kind == 1) & ((2 <= title) & ((title <= 63) & (title < count)))
+    kind == 1 && 2 <= title && title <= 63 && title < count
 }
 
 // The record at a place, as an image's.

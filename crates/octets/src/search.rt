@@ -6,6 +6,7 @@ ghost use Rattle.octets.specs.Search.{index_of};
 use super::parts;
 
 /// Whether two rows are the same.
+#[tactic(auto, using(crate::specs::Same::same_bytes_pointwise))]
 pub fn same(a: &[u8], b: &[u8]) -> bool
     ensures { result ≡ same_bytes a.now b.now }
 {
@@ -22,6 +23,7 @@ pub fn find(s: &[u8], byte: u8) -> usize
 }
 
 /// The place of the first zero among the first `most` bytes, or how many bytes were looked at where there is none.
+#[tactic(auto, unfolding(crate::specs::Lists::part))]
 pub fn first_zero(s: &[u8], most: usize) -> usize
     ensures { result ≡ index_of 0 (take most s.now) }
 {

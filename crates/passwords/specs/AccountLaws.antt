@@ -1,6 +1,6 @@
 -- What the record view says of a record that is read, and what a change of the digest leaves of it.
-use Rattle.std.specs.Prelude.{Bool, true, false, ◌&&◌, List, [], ◌∷◌, ◌≡◌, refl, ℕ, suc, ◌+◌, ◌≤◌, eqb, leb, length, take, drop, ◌⊎◌}
-use Rattle.std.proofs.Common.{sym, ap, ◌∙◌, le_refl, arith, ne_eqb, leb-true, length-drop, take_all, inl, inr}
+use Rattle.std.specs.Prelude.{Bool, true, false, ◌&&◌, List, [], ◌∷◌, ◌≡◌, refl, ℕ, suc, ◌+◌, ◌≤◌, eqb, leb, length, take, drop}
+use Rattle.std.proofs.Common.{sym, ap, ◌∙◌, le_refl, arith, ne_eqb, leb-true, length-drop, take_all}
 use Rattle.std.proofs.Math.Bool.{and-eq-true_iff}
 use Rattle.std.proofs.lemmas.List.{length-replicate}
 use Prim.Native.Nat.compare
@@ -11,6 +11,7 @@ use Rattle.octets.specs.OnPartLaws.{on_part-same, length-on_part, drop-on_part-b
 use Rattle.octets.specs.WriteLaws.{length_over, write_at-zero, on_part-write_at}
 use Rattle.rows.specs.declared.Cursor.{Cursor}
 use Rattle.octets.specs.declared.span.Span.{Span}
+use Rattle.rows.specs.declared.Step.{Step}
 use Rattle.rows.specs.declared.Step.TheVariants.{Record, Cut, End}
 use Rattle.rows.specs.Records.{payload_length, kind, size, join, whole, Alike}
 use Rattle.rows.specs.WalkLaws.{payload_length-same, kind-same, six_size, join-chunks}
@@ -22,15 +23,15 @@ use Rattle.passwords.specs.Account.{digest_length, digest_of, name, no_zero, sha
 
 -- ---- a record that is read
 
-pub name-part : (c : List ℕ) → part 38 (length c) c ≡ name c
+pub name_part : (c : List ℕ) → part 38 (length c) c ≡ name c
 unfolding name
-name-part c =
+name_part c =
     let short : length (drop 38 c) ≤ length c = rw length-drop (omega arith) in
     part_def 38 (length c) c ∙ take_all (length c) (drop 38 c) short
 
-pub digest-part : (c : List ℕ) → part 6 32 c ≡ digest_of c
+pub digest_part : (c : List ℕ) → part 6 32 c ≡ digest_of c
 unfolding digest_of
-digest-part c = refl
+digest_part c = refl
 
 -- no byte is zero where the first zero stands behind the end
 pub no_zero_lem : (l : List ℕ) → eqb (index_of 0 l) (length l) ≡ no_zero l
@@ -74,10 +75,14 @@ shaped-none c e =
     let w : whole [] ≡ false = ne_eqb 0 (size []) (λ z. absurd (omega (arith, six_size []))) in
     rw (nothing, w)
 
--- a record that is cut, or none, has no such shape
-pub unshaped : (c : List ℕ) → (step_at c 0 ≡ Cut) ⊎ (step_at c 0 ≡ End) → shaped c ≡ false
-unshaped c (inl e) = shaped-cut c e
-unshaped c (inr e) = shaped-none c e
+-- what is not read as a record has no such shape
+pub unshaped : (c : List ℕ) → ((k : ℕ) (payload : Span) (next : Cursor) → step_at c 0 ≡ Record k payload next → ⊥) → shaped c ≡ false
+unshaped c h = go (step_at c 0) refl
+  where
+    go : (s : Step) → step_at c 0 ≡ s → shaped c ≡ false
+    go (Record k payload next) e = absurd (h k payload next e)
+    go Cut e = shaped-cut c e
+    go End e = shaped-none c e
 
 pub obeys-read : (c : List ℕ) (k : ℕ) (payload : Span) (next : Cursor) → step_at c 0 ≡ Record k payload next → obeys c ≡ (shaped c && (eqb k 2 && no_zero (name c)))
 unfolding obeys

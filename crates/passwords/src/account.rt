@@ -11,6 +11,7 @@ pub(crate) const DIGEST_START: usize = 6;
 const DIGEST_LENGTH: usize = 32;
 
 // The name.
+#[tactic(auto, using(crate::specs::AccountLaws::name_part))]
 pub(crate) fn name(entry: &[u8]) -> &[u8]
     ensures { result.now ≡ name entry.now }
 {
@@ -18,6 +19,7 @@ pub(crate) fn name(entry: &[u8]) -> &[u8]
 }
 
 // The digest in force.
+#[tactic(auto, using(crate::specs::AccountLaws::digest_part))]
 pub(crate) fn digest(entry: &[u8]) -> &[u8]
     ensures { result.now ≡ digest_of entry.now }
 {
@@ -28,39 +30,32 @@ pub(crate) fn digest(entry: &[u8]) -> &[u8]
 fn no_zero(title: &[u8]) -> bool
     ensures { result ≡ no_zero title.now }
 {
-    let zero = search::first_zero(title, title.len());
-    zero == title.len()
+    search::first_zero(title, title.len()) == title.len()
 }
 
 // Whether the record is as long as its header says and has room for a digest and a name of 1 to 32 bytes.
 pub(crate) fn shaped(entry: &[u8]) -> bool
     ensures { result ≡ shaped entry.now }
 {
-    match Cursor::new().read(entry) {
-        Step::Record { next, .. } => {
-            let end = next.at;
-            let title = name(entry);
-            (entry.len() == end) & ((1 <= title.len()) & (title.len() <= 32))
-        }
-        Step::Cut | Step::End => false,
-    }
+    let Step::Record { next, .. } = Cursor::new().read(entry) else {
+        return false;
+    };
+    let length = name(entry).len();
+    (entry.len() == next.at) & ((1 <= length) & (length <= 32))
 }
 
 // Whether the record is of that shape, of kind 2, and has no zero in its name.
 pub(crate) fn obeys(entry: &[u8]) -> bool
     ensures { result ≡ obeys entry.now }
 {
-    match Cursor::new().read(entry) {
-        Step::Record { kind, .. } => {
-            let fits = shaped(entry);
-            let good = no_zero(name(entry));
-            fits & ((kind == 2) & good)
-        }
-        Step::Cut | Step::End => false,
-    }
+    let Step::Record { kind, .. } = Cursor::new().read(entry) else {
+        return false;
+    };
+    shaped(entry) & ((kind == 2) & no_zero(name(entry)))
 }
 
 // Puts a new digest in.
+#[tactic(auto, using(crate::specs::AccountLaws::change_at))]
 pub(crate) fn change(entry: &mut [u8], new: &[u8])
     ensures { entry.new ≡ changed new.now entry.old }
 {

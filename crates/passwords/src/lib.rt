@@ -113,6 +113,7 @@ pub fn count(file: &[u8]) -> usize
 }
 
 /// The name in record i; the empty part where there is no such record.
+#[tactic(auto, using(crate::specs::FileLaws::record_part), unfolding(crate::specs::PasswordFile::name_at))]
 pub fn name_at(file: &[u8], i: usize) -> &[u8]
     ensures { result.now ≡ name_at i file.now }
 {
@@ -120,6 +121,7 @@ pub fn name_at(file: &[u8], i: usize) -> &[u8]
 }
 
 /// The digest in record i; the empty part where there is no such record.
+#[tactic(auto, using(crate::specs::FileLaws::record_part), unfolding(crate::specs::PasswordFile::digest_at))]
 pub fn digest_at(file: &[u8], i: usize) -> &[u8]
     ensures { result.now ≡ digest_at i file.now }
 {
@@ -136,6 +138,7 @@ pub fn set_digest(file: &mut [u8], i: usize, new: &[u8])
 }
 
 /// Lays the first k bytes of `new` over the start of `old`: what a store that takes k bytes has of a file written from its first byte on.
+#[tactic(auto, unfolding(octets::specs::Lists::write_at, octets::specs::Lists::part))]
 pub fn write_first(new: &[u8], old: &mut [u8], k: usize)
     ensures { old.new ≡ over (take k new.now) old.old }
 {

@@ -4,4 +4,4 @@ use Rattle.passwords.specs.AccountLaws.{no_zero_lem}
 use Rattle.passwords.proofs.account.no_zero.Goals as goal
 
 pub returns : goal.returns
-returns c = rw (c.first_zero-zero.ensures, take-length) (no_zero_lem c.args.title.now)
+returns c = rw (c.first_zero.ensures, take-length) (no_zero_lem c.args.title.now)
