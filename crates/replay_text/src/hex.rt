@@ -76,11 +76,7 @@ fn put_decoded(out: &mut Output, word: &[u8])
 fn digit(n: u8) -> u8
     ensures { result ≡ hex_digit n }
 {
-    if n < 10 {
-        b'0' + n
-    } else {
-        b'a' - 10 + n % 16
-    }
+    if n < 10 { b'0' + n } else { b'a' - 10 + n % 16 }
 }
 
 /// The digits of all these bytes, or "-" where there is none.

@@ -1,4 +1,4 @@
-use Rattle.std.proofs.Common.{refl, sym, ap, ◌∙◌, ◌+◌, ◌<◌, arith, length, drop, length-drop}
+use Rattle.std.proofs.Common.{sym, ap, ◌∙◌, ◌+◌, ◌<◌, arith, length, drop, length-drop}
 use Rattle.replay_text.specs.Arguments.{most, kept, told, refused, arguments_of, read_words, words_from}
 use Rattle.replay_text.specs.WordLaws.{index_le}
 use Rattle.replay_text.specs.ArgumentLaws.{read_step, read_end_lem, read_left}

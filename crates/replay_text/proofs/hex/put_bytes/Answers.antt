@@ -1,4 +1,4 @@
-use Rattle.std.proofs.Common.{◌≡◌, sym, ◌∙◌, ap, eqb-true, length, take_all}
+use Rattle.std.proofs.Common.{sym, ◌∙◌, ap, eqb-true, take_all}
 use Rattle.std.proofs.lemmas.Bool.{eqb-false}
 use Rattle.lines.specs.Laws.{then_put, put_called, put_nothing}
 use Rattle.replay_text.specs.Hex.{hex_of}
