@@ -1,6 +1,7 @@
 //! Login, who, set-password and the table test, over one login record, one password table and one password file.
 //!
-//! Each call gets n, the number of the checks that all calls share, and goes on with its own: the first that refuses decides.
+//! Each call gets n, the number of the checks that all calls share, and goes on with its own: the first that refuses
+//! decides.
 #![tactic(auto)]
 
 use checks::{Refusal, number_behind};
@@ -53,7 +54,8 @@ pub fn readable(held: LoginRecord, table: &[u8]) -> bool
     passwords::sound(table) && users::placed(held, passwords::count(table))
 }
 
-// The digest of a password, which takes one block, since a string has at most 32 bytes. Nothing else raises the count by a block.
+// The digest of a password, which takes one block, since a string has at most 32 bytes. Nothing else raises the count
+// by a block.
 fn digest_counted(password: &[u8], count: usize) -> Digested
     requires { count < 2 ^ 63 }
     ensures { result ≡ digested (string_of password.now) count }
@@ -216,7 +218,8 @@ fn set_check(held: LoginRecord, password: &[u8]) -> Result<(), Refusal>
     Ok(())
 }
 
-/// Gives the user a new password. The store takes the first `taken` bytes of what is written; 203 where that is not the whole file.
+/// Gives the user a new password. The store takes the first `taken` bytes of what is written; 203 where that is not the
+/// whole file.
 pub fn set_password(
     n: u32,
     held: LoginRecord,

@@ -8,8 +8,8 @@ use octets::{parts, search};
 const MOST: usize = 33;
 
 // Whether a zero stands at place 0 to 32.
-// Stays: a test and the string, as specs/Strings has them. A call's checks stand before its work, so an Option would be taken apart in the
-// checks and once more in the work.
+// Stays: a test and the string, as specs/Strings has them. A call's checks stand before its work, so an Option would be
+// taken apart in the checks and once more in the work.
 pub(crate) fn is_string(s: &[u8]) -> bool
     ensures { result ≡ is_string s.now }
 {

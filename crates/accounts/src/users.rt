@@ -14,8 +14,8 @@ pub(crate) fn is_user(held: LoginRecord) -> bool
 }
 
 // The user's record; 0 where there is no user.
-// Stays: a number, as `place_of` of specs/Users. It is asked for behind the check that somebody is logged in, where an Option would need a way
-// out that no call takes.
+// Stays: a number, as `place_of` of specs/Users. It is asked for behind the check that somebody is logged in, where an
+// Option would need a way out that no call takes.
 #[tactic(auto, unfolding(crate::specs::Users::place_of))]
 pub(crate) fn place_of(held: LoginRecord) -> usize
     ensures { result ≡ place_of held.user }

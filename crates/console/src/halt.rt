@@ -23,7 +23,8 @@ fn shown(message: &[u8]) -> &[u8]
     parts::piece(message, 0, 0)
 }
 
-/// Puts the message and the notice on the partition's screen, unless that is faulty, and hands the partition back with its cursor moved.
+/// Puts the message and the notice on the partition's screen, unless that is faulty, and hands the partition back with
+/// its cursor moved.
 pub fn halt(part: Partition, partition: u32, message: &[u8], screens: &mut [u8]) -> Partition
     ensures { drawing result screens.new ≡ Halt·halt message.now partition part screens.old }
 {

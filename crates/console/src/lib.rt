@@ -1,7 +1,7 @@
 //! The calls on a partition's two devices, and what shutdown shows.
 //!
-//! A call takes the number of the common checks, 0 where nothing is refused, and tries its own behind them. It is lent the whole screen
-//! area and touches only its own partition's part of it. No function asks anything of its arguments.
+//! A call takes the number of the common checks, 0 where nothing is refused, and tries its own behind them. It is lent
+//! the whole screen area and touches only its own partition's part of it. No function asks anything of its arguments.
 #![tactic(auto)]
 
 ghost use Rattle.std.specs.Prelude.{◌≡◌, ◌+◌, ◌*◌, min};

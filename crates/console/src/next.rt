@@ -7,8 +7,8 @@ use super::{Reply, draw};
 use octets::parts;
 use state::Partition;
 
-/// Takes the oldest keys of the partition's queue into the buffer, `request` of them or as many as there are. `n` is the number of the
-/// common checks, 0 where nothing is refused.
+/// Takes the oldest keys of the partition's queue into the buffer, `request` of them or as many as there are. `n` is
+/// the number of the common checks, 0 where nothing is refused.
 #[tactic(auto, unfolding(crate::specs::Console::read_next, checks::specs::Settle::settle, crate::specs::Console::refusal, crate::specs::Console::keys_taken))]
 pub fn read_next(
     n: u32,
@@ -41,7 +41,8 @@ pub fn read_next(
     }
 }
 
-/// Puts the first `request` bytes on the partition's screen, from the cursor on. `n` is the number of the common checks.
+/// Puts the first `request` bytes on the partition's screen, from the cursor on. `n` is the number of the common
+/// checks.
 #[tactic(auto, unfolding(crate::specs::Console::write_next, checks::specs::Settle::settle, crate::specs::Console::refusal, crate::specs::Console::bytes_put, octets::specs::Lists::part))]
 pub fn write_next(
     n: u32,

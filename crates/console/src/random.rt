@@ -9,8 +9,8 @@ use devices::screen::{self, CELLS};
 use octets::parts;
 use state::Partition;
 
-/// Copies `request` cells of the partition's screen, from `offset` on, into the buffer, as many as there are. `n` is the number of the
-/// common checks, 0 where nothing is refused.
+/// Copies `request` cells of the partition's screen, from `offset` on, into the buffer, as many as there are. `n` is
+/// the number of the common checks, 0 where nothing is refused.
 #[tactic(auto, unfolding(crate::specs::Console::read_random, checks::specs::Settle::settle, crate::specs::Console::refusal, crate::specs::Console::cells_moved, crate::specs::Console::cells_of))]
 pub fn read_random(
     n: u32,
@@ -55,8 +55,8 @@ fn lay(partition: u32, offset: usize, request: usize, bytes: &[u8], screens: &mu
     screen::write_at(&mut screens[start..end], offset, request, bytes)
 }
 
-/// Copies the first `request` bytes over the cells of the partition's screen, from `offset` on, as many as there are. `n` is the number of
-/// the common checks.
+/// Copies the first `request` bytes over the cells of the partition's screen, from `offset` on, as many as there are.
+/// `n` is the number of the common checks.
 #[tactic(auto, unfolding(crate::specs::Console::write_random, checks::specs::Settle::settle, crate::specs::Console::refusal, crate::specs::Console::cells_moved))]
 pub fn write_random(
     n: u32,

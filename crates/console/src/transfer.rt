@@ -67,7 +67,8 @@ pub(crate) struct Transfer {
 }
 
 impl Transfer {
-    // Tries the checks of a device call in their order, where its major number names this device; `room` is how long the lent part is.
+    // Tries the checks of a device call in their order, where its major number names this device; `room` is how long
+    // the lent part is.
     #[tactic(auto, unfolding(checks::specs::Checks::after, checks::specs::Checks::refused, crate::specs::Transfers::checks_on))]
     fn check_on(self, device: Option<Device>, part: Partition, room: usize) -> Result<(), Refusal>
         ensures { answer result ≡ after 0 (checks_on device self part room) }

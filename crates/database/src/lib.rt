@@ -53,7 +53,8 @@ fn entry(kind: u32, selector: u32, size: u32, right: Permission, path: &[u8]) ->
 }
 
 // The kind of a row's segment.
-// Stays: 1 for a dseg, 2 for an mseg, as a number. It is spelled at once, and an enum would be made and taken apart in one line.
+// Stays: 1 for a dseg, 2 for an mseg, as a number. It is spelled at once, and an enum would be made and taken apart in
+// one line.
 #[tactic(auto, unfolding(crate::specs::Database::kind_of))]
 fn kind_of(row: usize) -> u32
     ensures { result ≡ kind_of row }
@@ -90,7 +91,8 @@ fn entry_of(segment: &Segment, store: &[u8], right: Permission, row: usize) -> [
     )
 }
 
-// Lays a row's entry behind `count` others, where the partition has a right to the segment, and says how many there are then.
+// Lays a row's entry behind `count` others, where the partition has a right to the segment, and says how many there are
+// then.
 #[tactic(auto, using(crate::proofs::RowRules::row_rules))]
 fn put_row(
     segment: &Segment,
@@ -113,7 +115,8 @@ fn put_row(
     count + 1
 }
 
-// Lays the entries one behind the other, and says how many they are. The plan and the table are lent, so that no turn copies them.
+// Lays the entries one behind the other, and says how many they are. The plan and the table are lent, so that no turn
+// copies them.
 fn put_entries(
     plan: &Plan,
     permissions: &[[u8; 8]; 32],
@@ -131,7 +134,8 @@ fn put_entries(
     count
 }
 
-// The first six numbers: the version, major and minor of the keyboard, major and minor of the screen, and how many entries there are.
+// The first six numbers: the version, major and minor of the keyboard, major and minor of the screen, and how many
+// entries there are.
 fn put_header(buffer: &mut [u8], partition: u32, count: u32)
     ensures { buffer.new ≡ write_at 0 (header partition count) buffer.old }
 {
@@ -171,8 +175,8 @@ fn check(buffer: &[u8]) -> Result<(), Refusal>
     Ok(())
 }
 
-/// Writes a partition's configuration database, of 2,584 bytes, to the buffer's start. `n` is the number of the common checks, 0 where
-/// nothing is refused.
+/// Writes a partition's configuration database, of 2,584 bytes, to the buffer's start. `n` is the number of the common
+/// checks, 0 where nothing is refused.
 pub fn configuration(
     n: u32,
     plan: &Plan,

@@ -1,6 +1,7 @@
 //! A partition's memory: load, store and flush of what a selector reaches.
 //!
-//! No public function asks anything of its arguments. `n` is the number of the common checks, 0 where nothing is refused.
+//! No public function asks anything of its arguments. `n` is the number of the common checks, 0 where nothing is
+//! refused.
 #![tactic(auto)]
 
 ghost use Rattle.std.specs.Prelude.{◌≡◌, ◌+◌, eqb, ltb};
@@ -20,9 +21,10 @@ pub mod rights;
 
 pub use rights::Permission;
 
-/// What a selector gives a partition: the number of its right (0 NA, 1 RO, 2 RW), whether a file is mapped there (a dseg), and the segment.
-// Stays: the right is a number, and `mapped` stands beside the segment. `load`, `store` and `flush` promise an answer for every number, and a
-// segment of the plan has a place for a file in any row (docs/DECISIONS.md, "Forms that stay").
+/// What a selector gives a partition: the number of its right (0 NA, 1 RO, 2 RW), whether a file is mapped there (a
+/// dseg), and the segment.
+// Stays: the right is a number, and `mapped` stands beside the segment. `load`, `store` and `flush` promise an answer
+// for every number, and a segment of the plan has a place for a file in any row (docs/DECISIONS.md, "Forms that stay").
 #[derive(Clone, Copy, Debug, PartialEq, Eq)]
 pub struct Reach {
     pub right: u8,
@@ -46,7 +48,8 @@ impl Reach {
     }
 }
 
-// Whether a range of n bytes from `offset` on leaves a segment of `size` bytes. The sum is not formed, so it cannot wrap.
+// Whether a range of n bytes from `offset` on leaves a segment of `size` bytes. The sum is not formed, so it cannot
+// wrap.
 fn leaves(size: usize, offset: usize, n: usize) -> bool
     ensures { result ≡ ltb size (offset + n) }
 {
@@ -130,7 +133,8 @@ fn flush_check(reach: &Reach) -> Result<(), Refusal>
     Ok(())
 }
 
-/// Writes a dseg's first bytes, as many as the store will take, over its file in the store; 203 where that is less than the dseg.
+/// Writes a dseg's first bytes, as many as the store will take, over its file in the store; 203 where that is less than
+/// the dseg.
 pub fn flush(n: u32, reach: Reach, taken: u32, arena: &[u8], store: &mut [u8]) -> u32
     ensures { told result store.new ≡ Memory·flush n reach taken arena.now store.old }
 {

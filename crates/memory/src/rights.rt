@@ -57,8 +57,8 @@ impl Permission {
 }
 
 // The row of a selector's segment in the permission table.
-// Stays: 32, behind the last row, where the selector names none, as `row_of` of specs/Rights has it. All that reads a row takes such a one
-// for an empty segment without a right, so that an `Option` would only be taken apart again.
+// Stays: 32, behind the last row, where the selector names none, as `row_of` of specs/Rights has it. All that reads a
+// row takes such a one for an empty segment without a right, so that an `Option` would only be taken apart again.
 #[tactic(auto, unfolding(crate::specs::Rights::row_of))]
 fn row_of(selector: u32) -> usize
     ensures { result ≡ row_of selector }

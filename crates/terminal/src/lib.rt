@@ -1,9 +1,9 @@
 //! The terminal: start, the fourteen calls and the three events, as methods of one value.
 //!
-//! Every call takes the terminal and hands back the next one with its answer. A call is lent only the areas it touches. Nothing has to be
-//! checked before a call: what it cannot do it refuses by a number, and then it changes nothing.
-// Stays: each call tests what it is lent, does its work behind that number, and answers. A function that is handed the work as a closure
-// would have to be lent the same areas, and each call would say as much as it says now.
+//! Every call takes the terminal and hands back the next one with its answer. A call is lent only the areas it touches.
+//! Nothing has to be checked before a call: what it cannot do it refuses by a number, and then it changes nothing.
+// Stays: each call tests what it is lent, does its work behind that number, and answers. A function that is handed the
+// work as a closure would have to be lent the same areas, and each call would say as much as it says now.
 #![tactic(auto)]
 
 use state::{Partition, Plan, Seat, State};
@@ -27,7 +27,8 @@ pub struct Terminal {
     pub state: State,
 }
 
-/// What a call answers: its number (0 where it is done), a count (keys, cells or bytes moved, or login's work; else 0) and the next terminal.
+/// What a call answers: its number (0 where it is done), a count (keys, cells or bytes moved, or login's work; else 0)
+/// and the next terminal.
 // Stays: a public answer with its number, since number and count stand together (docs/DECISIONS.md, "Forms that stay").
 #[derive(Clone, Copy, Debug, PartialEq, Eq)]
 pub struct Answer {
@@ -36,8 +37,8 @@ pub struct Answer {
     pub terminal: Terminal,
 }
 
-/// What start answers: its number (0 where the terminal is started), the line of the set-up text that it is about (0 for none) and the next
-/// terminal.
+/// What start answers: its number (0 where the terminal is started), the line of the set-up text that it is about (0
+/// for none) and the next terminal.
 // Stays: a public answer with its number, since number and line stand together (docs/DECISIONS.md, "Forms that stay").
 #[derive(Clone, Copy, Debug, PartialEq, Eq)]
 pub struct Started {
