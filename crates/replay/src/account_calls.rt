@@ -2,20 +2,20 @@
 use super::line::{BadLine, Line, Words};
 use super::session::Session;
 
-/// Names and passwords come with the zero behind them.
+/// A call, besides the partition that makes it. Names and passwords come with the zero behind them.
 #[derive(Clone, Copy)]
 pub enum AccountCall<'a> {
-    /// `login P NAME PASSWORD`
+    /// The name and the password.
     Login(&'a [u8], &'a [u8]),
-    /// `who P LENGTH`
+    /// How long the buffer is.
     Who(u32),
-    /// `logout P`
     Logout,
-    /// `set_password P PASSWORD TAKEN`
+    /// The new password, and how many bytes the store takes.
     SetPassword(&'a [u8], u32),
 }
 
 impl<'a> AccountCall<'a> {
+    /// `login P NAME PASSWORD`
     pub fn login(words: Words<'a>) -> Result<Line<'a>, BadLine> {
         let read = words.read(b"nbb")?;
         let [partition, size, ..] = read.numbers;
@@ -25,16 +25,19 @@ impl<'a> AccountCall<'a> {
         Ok(Line::Account(partition, call))
     }
 
+    /// `who P LENGTH`
     pub fn who(words: Words<'a>) -> Result<Line<'a>, BadLine> {
         let [partition, length, ..] = words.read(b"nl")?.numbers;
         Ok(Line::Account(partition, AccountCall::Who(length)))
     }
 
+    /// `logout P`
     pub fn logout(words: Words<'a>) -> Result<Line<'a>, BadLine> {
         let [partition, ..] = words.read(b"n")?.numbers;
         Ok(Line::Account(partition, AccountCall::Logout))
     }
 
+    /// `set_password P PASSWORD TAKEN`
     pub fn set_password(words: Words<'a>) -> Result<Line<'a>, BadLine> {
         let read = words.read(b"nbn")?;
         let [partition, _, taken, ..] = read.numbers;

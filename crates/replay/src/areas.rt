@@ -9,6 +9,7 @@ use std::io::Read;
 pub const UNTOUCHED: u8 = 165;
 
 /// A row of bytes of which the first `length` are in use.
+// Stays: a row with its length beside it, since memory is fixed (docs/DECISIONS.md, "Forms that stay").
 #[derive(Drop)]
 pub struct Area<'a> {
     room: &'a mut [u8],
@@ -16,14 +17,17 @@ pub struct Area<'a> {
 }
 
 impl<'a> Area<'a> {
+    /// The first `length` bytes of `room` are in use, as they are.
     pub fn new(room: &'a mut [u8], length: usize) -> Area<'a> {
         Area { room, length }
     }
 
+    /// What is in use.
     pub fn bytes(&self) -> &[u8] {
         parts::piece(self.room, 0, self.length)
     }
 
+    /// The same, lent for writing.
     pub fn bytes_mut(&mut self) -> &mut [u8] {
         let end = self.length.min(self.room.len());
         &mut self.room[..end]

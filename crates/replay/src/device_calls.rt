@@ -9,25 +9,28 @@ pub struct Address {
     pub minor: u32,
 }
 
+/// A call, besides the partition that makes it.
 #[derive(Clone, Copy)]
 pub enum DeviceCall<'a> {
-    /// `read_next P MAJOR MINOR REQUEST LENGTH`
+    /// The device, how many keys are asked for, and how long the buffer is.
     ReadNext(Address, u32, u32),
-    /// `write_next P MAJOR MINOR REQUEST BYTES`
+    /// The device, how many bytes are to be written, and the bytes.
     WriteNext(Address, u32, &'a [u8]),
-    /// `read_random P MAJOR MINOR OFFSET REQUEST LENGTH`
+    /// The device, the first cell, how many are asked for, and how long the buffer is.
     ReadRandom(Address, u32, u32, u32),
-    /// `write_random P MAJOR MINOR OFFSET REQUEST BYTES`
+    /// The device, the first cell, how many are to be written, and the bytes.
     WriteRandom(Address, u32, u32, &'a [u8]),
 }
 
 impl<'a> DeviceCall<'a> {
+    /// `read_next P MAJOR MINOR REQUEST LENGTH`
     pub fn read_next(words: Words<'a>) -> Result<Line<'a>, BadLine> {
         let [partition, major, minor, request, length, ..] = words.read(b"nnnnl")?.numbers;
         let call = DeviceCall::ReadNext(Address { major, minor }, request, length);
         Ok(Line::Device(partition, call))
     }
 
+    /// `write_next P MAJOR MINOR REQUEST BYTES`
     pub fn write_next(words: Words<'a>) -> Result<Line<'a>, BadLine> {
         let read = words.read(b"nnnnb")?;
         let [partition, major, minor, request, ..] = read.numbers;
@@ -35,12 +38,14 @@ impl<'a> DeviceCall<'a> {
         Ok(Line::Device(partition, call))
     }
 
+    /// `read_random P MAJOR MINOR OFFSET REQUEST LENGTH`
     pub fn read_random(words: Words<'a>) -> Result<Line<'a>, BadLine> {
         let [partition, major, minor, offset, request, length] = words.read(b"nnnnnl")?.numbers;
         let call = DeviceCall::ReadRandom(Address { major, minor }, offset, request, length);
         Ok(Line::Device(partition, call))
     }
 
+    /// `write_random P MAJOR MINOR OFFSET REQUEST BYTES`
     pub fn write_random(words: Words<'a>) -> Result<Line<'a>, BadLine> {
         let read = words.read(b"nnnnnb")?;
         let [partition, major, minor, offset, request, _] = read.numbers;

@@ -2,27 +2,31 @@
 use super::line::{BadLine, Line, Words};
 use super::session::Session;
 
+/// An event.
 #[derive(Clone, Copy, Debug)]
 pub enum Event {
-    /// `key BYTE`
+    /// The byte of a key that is pressed.
     Key(u8),
-    /// `attention`
+    /// The attention key is pressed.
     Attention,
-    /// `fault P DEVICE set`, `fault P DEVICE clear`
+    /// The partition, its device, and whether that fails or works again.
     Fault(u32, u32, bool),
 }
 
 impl Event {
+    /// `key BYTE`
     pub fn key(words: Words) -> Result<Line, BadLine> {
         let [byte, ..] = words.read(b"y")?.numbers;
         Ok(Line::Event(Event::Key((byte % 256) as u8)))
     }
 
+    /// `attention`
     pub fn attention(words: Words) -> Result<Line, BadLine> {
         words.none()?;
         Ok(Line::Event(Event::Attention))
     }
 
+    /// `fault P DEVICE set`, `fault P DEVICE clear`
     pub fn fault(words: Words) -> Result<Line, BadLine> {
         let [partition, device, set, ..] = words.read(b"nns")?.numbers;
         Ok(Line::Event(Event::Fault(partition, device, set == 1)))

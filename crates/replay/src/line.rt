@@ -54,6 +54,7 @@ impl<'a> Words<'a> {
         parts::piece(self.line, self.at, self.line.len())
     }
 
+    // Stays: letters for kinds, as `arguments::read` promises an answer for every pattern of bytes.
     /// One word for each kind: n a number, l the length of a buffer, a the length of an area, b bytes, y one byte,
     /// s `set` or `clear`, o `yes` or `no`.
     pub fn read(self, kinds: &[u8]) -> Result<Arguments<'a>, BadLine> {
@@ -83,8 +84,8 @@ impl<'a> Line<'a> {
             b"arena" => Setting::arena(words),
             b"tables" => Setting::tables(words),
             b"screens" => Setting::screens(words),
-            b"text" => Ok(Line::Setting(Setting::Text(words.rest()))),
-            b"image" => Ok(Line::Setting(Setting::Image(words.rest()))),
+            b"text" => Setting::text(words),
+            b"image" => Setting::image(words),
             b"clear" => Setting::clear(words),
             b"start" => start(words),
             b"login" => AccountCall::login(words),
@@ -111,6 +112,7 @@ impl<'a> Line<'a> {
     }
 }
 
+// `start`
 fn start(words: Words) -> Result<Line, BadLine> {
     words.none()?;
     Ok(Line::Start)

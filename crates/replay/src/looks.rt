@@ -5,20 +5,23 @@ use devices::screen::{CELLS, COLUMNS};
 use octets::parts;
 use state::{Login, PARTITIONS};
 
+/// What is to be seen.
 #[derive(Clone, Copy, Debug)]
 pub enum Look {
-    /// `show`
+    /// The state, and the digests of the areas.
     Show,
-    /// `screen P`
+    /// The screen of a partition.
     Screen(u32),
 }
 
 impl Look {
+    /// `show`
     pub fn show(words: Words) -> Result<Line, BadLine> {
         words.none()?;
         Ok(Line::Look(Look::Show))
     }
 
+    /// `screen P`
     pub fn screen(words: Words) -> Result<Line, BadLine> {
         let [partition, ..] = words.read(b"n")?.numbers;
         Ok(Line::Look(Look::Screen(partition)))

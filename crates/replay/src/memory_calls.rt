@@ -2,25 +2,28 @@
 use super::line::{BadLine, Line, Words};
 use super::session::Session;
 
+/// A call, besides the partition that makes it.
 #[derive(Clone, Copy)]
 pub enum MemoryCall<'a> {
-    /// `load P SELECTOR OFFSET LENGTH`
+    /// The segment's selector, a place in it, and how long the buffer is.
     Load(u32, u32, u32),
-    /// `store P SELECTOR OFFSET BYTES`
+    /// The segment's selector, a place in it, and the bytes.
     Store(u32, u32, &'a [u8]),
-    /// `flush P SELECTOR TAKEN`
+    /// The segment's selector, and how many bytes the store takes.
     Flush(u32, u32),
-    /// `configuration P LENGTH`
+    /// How long the buffer is.
     Configuration(u32),
 }
 
 impl<'a> MemoryCall<'a> {
+    /// `load P SELECTOR OFFSET LENGTH`
     pub fn load(words: Words<'a>) -> Result<Line<'a>, BadLine> {
         let [partition, selector, offset, length, ..] = words.read(b"nnnl")?.numbers;
         let call = MemoryCall::Load(selector, offset, length);
         Ok(Line::Memory(partition, call))
     }
 
+    /// `store P SELECTOR OFFSET BYTES`
     pub fn store(words: Words<'a>) -> Result<Line<'a>, BadLine> {
         let read = words.read(b"nnnb")?;
         let [partition, selector, offset, ..] = read.numbers;
@@ -28,12 +31,14 @@ impl<'a> MemoryCall<'a> {
         Ok(Line::Memory(partition, call))
     }
 
+    /// `flush P SELECTOR TAKEN`
     pub fn flush(words: Words<'a>) -> Result<Line<'a>, BadLine> {
         let [partition, selector, taken, ..] = words.read(b"nnn")?.numbers;
         let call = MemoryCall::Flush(selector, taken);
         Ok(Line::Memory(partition, call))
     }
 
+    /// `configuration P LENGTH`
     pub fn configuration(words: Words<'a>) -> Result<Line<'a>, BadLine> {
         let [partition, length, ..] = words.read(b"nl")?.numbers;
         let call = MemoryCall::Configuration(length);

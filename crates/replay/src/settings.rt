@@ -8,21 +8,21 @@ use replay_text::letters::Letters;
 /// image are still spelt.
 #[derive(Clone, Copy)]
 pub enum Setting<'a> {
-    /// `partitions LETTERS`
+    /// How many partitions there are, and which of them are active.
     Partitions(Letters),
-    /// `soft yes`, `soft no`
+    /// Whether powerdown can switch the power off.
     Soft(bool),
-    /// `arena N`
+    /// How long the arena is.
     Arena(u32),
-    /// `tables N`
+    /// How long the table area is.
     Tables(u32),
-    /// `screens N`
+    /// How long the screen area is.
     Screens(u32),
-    /// `text BYTES`
+    /// A piece of the set-up text.
     Text(&'a [u8]),
-    /// `image BYTES`
+    /// A piece of the store.
     Image(&'a [u8]),
-    /// `clear`
+    /// The set-up text and the store are taken away.
     Clear,
 }
 
@@ -33,28 +33,44 @@ fn length_of(words: Words) -> Result<u32, BadLine> {
 }
 
 impl<'a> Setting<'a> {
+    /// `partitions LETTERS`
     pub fn partitions(words: Words<'a>) -> Result<Line<'a>, BadLine> {
         let letters = letters::read(words.rest()).ok_or(BadLine)?;
         Ok(Line::Setting(Setting::Partitions(letters)))
     }
 
+    /// `soft yes`, `soft no`
     pub fn soft(words: Words<'a>) -> Result<Line<'a>, BadLine> {
         let [yes, ..] = words.read(b"o")?.numbers;
         Ok(Line::Setting(Setting::Soft(yes == 1)))
     }
 
+    /// `arena N`
     pub fn arena(words: Words<'a>) -> Result<Line<'a>, BadLine> {
         Ok(Line::Setting(Setting::Arena(length_of(words)?)))
     }
 
+    /// `tables N`
     pub fn tables(words: Words<'a>) -> Result<Line<'a>, BadLine> {
         Ok(Line::Setting(Setting::Tables(length_of(words)?)))
     }
 
+    /// `screens N`
     pub fn screens(words: Words<'a>) -> Result<Line<'a>, BadLine> {
         Ok(Line::Setting(Setting::Screens(length_of(words)?)))
     }
 
+    /// `text BYTES`
+    pub fn text(words: Words<'a>) -> Result<Line<'a>, BadLine> {
+        Ok(Line::Setting(Setting::Text(words.rest())))
+    }
+
+    /// `image BYTES`
+    pub fn image(words: Words<'a>) -> Result<Line<'a>, BadLine> {
+        Ok(Line::Setting(Setting::Image(words.rest())))
+    }
+
+    /// `clear`
     pub fn clear(words: Words<'a>) -> Result<Line<'a>, BadLine> {
         words.none()?;
         Ok(Line::Setting(Setting::Clear))

@@ -2,21 +2,23 @@
 use super::line::{BadLine, Line, Words};
 use super::session::Session;
 
+/// A call, besides the partition that makes it.
 #[derive(Clone, Copy)]
 pub enum StopCall<'a> {
-    /// `shutdown P MESSAGE`; the message comes with the zero behind it.
+    /// The message, with the zero behind it.
     Shutdown(&'a [u8]),
-    /// `powerdown P`
     Powerdown,
 }
 
 impl<'a> StopCall<'a> {
+    /// `shutdown P MESSAGE`
     pub fn shutdown(words: Words<'a>) -> Result<Line<'a>, BadLine> {
         let read = words.read(b"nb")?;
         let [partition, ..] = read.numbers;
         Ok(Line::Stop(partition, StopCall::Shutdown(read.bytes)))
     }
 
+    /// `powerdown P`
     pub fn powerdown(words: Words<'a>) -> Result<Line<'a>, BadLine> {
         let [partition, ..] = words.read(b"n")?.numbers;
         Ok(Line::Stop(partition, StopCall::Powerdown))
