@@ -10,8 +10,8 @@ use std::io::Write;
 const PLENTY: usize = 49152;
 
 /// The answers that wait to be written out: the first `used` bytes of the row.
-// Stays: a row with its length beside it, since memory is fixed (docs/DECISIONS.md, "Forms that stay"). An `Output` in its
-// place was tried: it has ghost fields, and the check has no rule for lending its row where it lies in another struct.
+// Stays: a row with its length beside it, since memory is fixed (docs/DECISIONS.md, "Forms that stay"). An `Output` in
+// its place was tried: it has ghost fields, and the check has no rule for lending its row where it lies in a struct.
 #[derive(Drop)]
 pub struct Answers<'a> {
     row: &'a mut [u8],
