@@ -23,12 +23,9 @@ pub extern "C" fn virpulens_bench_logout_login(
 {
     let mut permissions = [[0u8; 8]; 32];
     let mut last = scene::begun(text, store, arena, tables, screens, &mut permissions);
-    let mut i: u32 = 0;
-    while i < turns {
+    for _ in 0..turns {
         let out = last.terminal.logout(partition);
-        let next = out.terminal.login(partition, name, password, tables);
-        last = next;
-        i += 1;
+        last = out.terminal.login(partition, name, password, tables);
     }
     last.number
 }
@@ -47,11 +44,8 @@ pub extern "C" fn virpulens_bench_logout(
 {
     let mut permissions = [[0u8; 8]; 32];
     let mut last = scene::begun(text, store, arena, tables, screens, &mut permissions);
-    let mut i: u32 = 0;
-    while i < turns {
-        let next = last.terminal.logout(partition);
-        last = next;
-        i += 1;
+    for _ in 0..turns {
+        last = last.terminal.logout(partition);
     }
     last.number
 }
@@ -84,11 +78,8 @@ pub extern "C" fn virpulens_bench_who(
         name,
         password,
     );
-    let mut i: u32 = 0;
-    while i < turns {
-        let next = last.terminal.who(partition, tables, buffer);
-        last = next;
-        i += 1;
+    for _ in 0..turns {
+        last = last.terminal.who(partition, tables, buffer);
     }
     last.number
 }
@@ -122,13 +113,10 @@ pub extern "C" fn virpulens_bench_set_password(
         name,
         password,
     );
-    let mut i: u32 = 0;
-    while i < turns {
-        let next = last
+    for _ in 0..turns {
+        last = last
             .terminal
             .set_password(partition, changed, taken, store, tables);
-        last = next;
-        i += 1;
     }
     last.number
 }

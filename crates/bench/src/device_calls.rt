@@ -24,12 +24,9 @@ pub extern "C" fn virpulens_bench_key_read_next(
 {
     let mut permissions = [[0u8; 8]; 32];
     let mut last = scene::begun(text, store, arena, tables, screens, &mut permissions);
-    let mut i: u32 = 0;
-    while i < turns {
+    for _ in 0..turns {
         let typed = last.terminal.key(byte);
-        let next = typed.read_next(partition, 1, partition, request, buffer);
-        last = next;
-        i += 1;
+        last = typed.read_next(partition, 1, partition, request, buffer);
     }
     last.number
 }
@@ -51,13 +48,10 @@ pub extern "C" fn virpulens_bench_read_random(
 {
     let mut permissions = [[0u8; 8]; 32];
     let mut last = scene::begun(text, store, arena, tables, screens, &mut permissions);
-    let mut i: u32 = 0;
-    while i < turns {
-        let next = last
+    for _ in 0..turns {
+        last = last
             .terminal
             .read_random(partition, 2, partition, offset, request, screens, buffer);
-        last = next;
-        i += 1;
     }
     last.number
 }
@@ -78,13 +72,10 @@ pub extern "C" fn virpulens_bench_write_next(
 {
     let mut permissions = [[0u8; 8]; 32];
     let mut last = scene::begun(text, store, arena, tables, screens, &mut permissions);
-    let mut i: u32 = 0;
-    while i < turns {
-        let next = last
+    for _ in 0..turns {
+        last = last
             .terminal
             .write_next(partition, 2, partition, request, bytes, screens);
-        last = next;
-        i += 1;
     }
     last.number
 }
@@ -106,13 +97,10 @@ pub extern "C" fn virpulens_bench_write_random(
 {
     let mut permissions = [[0u8; 8]; 32];
     let mut last = scene::begun(text, store, arena, tables, screens, &mut permissions);
-    let mut i: u32 = 0;
-    while i < turns {
-        let next = last
+    for _ in 0..turns {
+        last = last
             .terminal
             .write_random(partition, 2, partition, offset, request, bytes, screens);
-        last = next;
-        i += 1;
     }
     last.number
 }

@@ -23,13 +23,10 @@ pub extern "C" fn virpulens_bench_load(
 {
     let mut permissions = [[0u8; 8]; 32];
     let mut last = scene::begun(text, store, arena, tables, screens, &mut permissions);
-    let mut i: u32 = 0;
-    while i < turns {
-        let next = last
+    for _ in 0..turns {
+        last = last
             .terminal
             .load(permissions, partition, selector, offset, arena, buffer);
-        last = next;
-        i += 1;
     }
     last.number
 }
@@ -51,13 +48,10 @@ pub extern "C" fn virpulens_bench_store(
 {
     let mut permissions = [[0u8; 8]; 32];
     let mut last = scene::begun(text, store, arena, tables, screens, &mut permissions);
-    let mut i: u32 = 0;
-    while i < turns {
-        let next = last
+    for _ in 0..turns {
+        last = last
             .terminal
             .store(permissions, partition, selector, offset, bytes, arena);
-        last = next;
-        i += 1;
     }
     last.number
 }
@@ -78,13 +72,10 @@ pub extern "C" fn virpulens_bench_flush(
 {
     let mut permissions = [[0u8; 8]; 32];
     let mut last = scene::begun(text, store, arena, tables, screens, &mut permissions);
-    let mut i: u32 = 0;
-    while i < turns {
-        let next = last
+    for _ in 0..turns {
+        last = last
             .terminal
             .flush(permissions, partition, selector, taken, arena, store);
-        last = next;
-        i += 1;
     }
     last.number
 }
@@ -104,13 +95,10 @@ pub extern "C" fn virpulens_bench_configuration(
 {
     let mut permissions = [[0u8; 8]; 32];
     let mut last = scene::begun(text, store, arena, tables, screens, &mut permissions);
-    let mut i: u32 = 0;
-    while i < turns {
-        let next = last
+    for _ in 0..turns {
+        last = last
             .terminal
             .configuration(permissions, partition, store, buffer);
-        last = next;
-        i += 1;
     }
     last.number
 }

@@ -22,9 +22,8 @@ pub extern "C" fn virpulens_bench_start(
 {
     let mut permissions = [[0u8; 8]; 32];
     let mut last = scene::begun(text, store, arena, tables, screens, &mut permissions);
-    let mut i: u32 = 0;
-    while i < turns {
-        let next = scene::begun_from(
+    for _ in 0..turns {
+        last = scene::begun_from(
             last.terminal,
             text,
             store,
@@ -33,8 +32,6 @@ pub extern "C" fn virpulens_bench_start(
             screens,
             &mut permissions,
         );
-        last = next;
-        i += 1;
     }
     last.number
 }
@@ -58,11 +55,8 @@ pub extern "C" fn virpulens_bench_key(
     let mut permissions = [[0u8; 8]; 32];
     let first = scene::begun(text, store, arena, tables, screens, &mut permissions);
     let mut last = first.terminal;
-    let mut i: u32 = 0;
-    while i < turns {
-        let next = last.key(byte);
-        last = next;
-        i += 1;
+    for _ in 0..turns {
+        last = last.key(byte);
     }
     let read = last.read_next(partition, 1, partition, request, buffer);
     read.number

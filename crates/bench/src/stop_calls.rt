@@ -22,11 +22,8 @@ pub extern "C" fn virpulens_bench_shutdown(
     let mut permissions = [[0u8; 8]; 32];
     let first = scene::begun(text, store, arena, tables, screens, &mut permissions);
     let mut last = first;
-    let mut i: u32 = 0;
-    while i < turns {
-        let next = first.terminal.shutdown(partition, message, screens);
-        last = next;
-        i += 1;
+    for _ in 0..turns {
+        last = first.terminal.shutdown(partition, message, screens);
     }
     last.number
 }
@@ -46,11 +43,8 @@ pub extern "C" fn virpulens_bench_powerdown(
     let mut permissions = [[0u8; 8]; 32];
     let first = scene::begun(text, store, arena, tables, screens, &mut permissions);
     let mut last = first;
-    let mut i: u32 = 0;
-    while i < turns {
-        let next = first.terminal.powerdown(partition, screens);
-        last = next;
-        i += 1;
+    for _ in 0..turns {
+        last = first.terminal.powerdown(partition, screens);
     }
     last.number
 }

@@ -1,12 +1,9 @@
-use Rattle.std.proofs.Common.{◌≡◌, [], ◌≤◌, ◌-◌, length}
+use Rattle.std.proofs.Common.{◌≡◌, []}
 use Rattle.terminal.specs.Terminal.{outcome}
 use Rattle.bench.specs.Scene.{scene}
 use Rattle.bench.specs.Turns.{turns}
 use Rattle.bench.specs.Steps.{write_random_turn}
 use Rattle.bench.proofs.device_calls.virpulens_bench_write_random.Given as goal
 
-abbrev pub invariant-loop-i : goal.invariant-loop-i
-invariant-loop-i l = (outcome l.last l.screens ≡ turns l.i (write_random_turn l.partition l.offset l.request l.bytes (scene l.initial.last l.arena l.tables l.initial.screens [])) (outcome l.initial.last l.initial.screens)) × ((length l.screens ≡ length l.initial.screens) × (l.i ≤ l.turns))
-
-abbrev pub decreases-loop-i : goal.decreases-loop-i
-decreases-loop-i l = l.turns - l.i
+abbrev pub invariant-loop : goal.invariant-loop
+invariant-loop l = outcome l.last l.screens ≡ turns l.counter (write_random_turn l.partition l.offset l.request l.bytes (scene l.initial.last l.arena l.tables l.initial.screens [])) (outcome l.initial.last l.initial.screens)

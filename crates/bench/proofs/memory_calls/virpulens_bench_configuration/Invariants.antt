@@ -1,12 +1,9 @@
-use Rattle.std.proofs.Common.{◌≡◌, ◌≤◌, ◌-◌, length}
+use Rattle.std.proofs.Common.{◌≡◌}
 use Rattle.terminal.specs.Terminal.{outcome}
 use Rattle.bench.specs.Scene.{scene}
 use Rattle.bench.specs.Turns.{turns}
 use Rattle.bench.specs.Steps.{configuration_turn}
 use Rattle.bench.proofs.memory_calls.virpulens_bench_configuration.Given as goal
 
-abbrev pub invariant-loop-i : goal.invariant-loop-i
-invariant-loop-i l = (outcome l.last l.buffer ≡ turns l.i (configuration_turn l.partition l.store (scene l.initial.last l.arena l.tables l.screens l.permissions)) (outcome l.initial.last l.initial.buffer)) × ((length l.buffer ≡ length l.initial.buffer) × (l.i ≤ l.turns))
-
-abbrev pub decreases-loop-i : goal.decreases-loop-i
-decreases-loop-i l = l.turns - l.i
+abbrev pub invariant-loop : goal.invariant-loop
+invariant-loop l = outcome l.last l.buffer ≡ turns l.counter (configuration_turn l.partition l.store (scene l.initial.last l.arena l.tables l.screens l.permissions)) (outcome l.initial.last l.initial.buffer)

@@ -1,21 +1,15 @@
-use Rattle.std.proofs.Common.{◌≡◌, refl, arith, rules}
+use Rattle.std.proofs.Common.{◌≡◌, arith}
 use Rattle.bench.specs.Scene.{opened, none}
 use Rattle.bench.proofs.Ends.{none_yet, once_more, scene_end}
 use Rattle.bench.proofs.starts.virpulens_bench_start.Goals as goal
 
-pub loop-i-init : goal.loop-i-init
-loop-i-init c = (none_yet _ _, (refl, (refl, (refl, omega arith))))
+pub loop-init : goal.loop-init
+loop-init c = none_yet _ _
 
-pub overflow_add-i : goal.overflow_add-i
-overflow_add-i c = omega (arith, c.loop-i-test.true, c.ranges.turns)
-
-pub loop-i-smaller : goal.loop-i-smaller
-loop-i-smaller c = omega (arith, c.loop-i-test.true)
-
-pub loop-i-preserved : goal.loop-i-preserved
-loop-i-preserved c = (once_more _ _ _ _ _ c.loop-i.invariant.0 c.begun_from-next.ensures, (search rules, (search rules, (search rules, omega (arith, c.loop-i-test.true)))))
+pub loop-preserved : goal.loop-preserved
+loop-preserved c = once_more _ _ _ _ _ c.loop.invariant c.begun_from-last.ensures
 
 pub returns : goal.returns
 returns c = let args = c.args in
-    let all : c.loop-i.i ≡ args.turns = omega (arith, c.loop-i-test.false, c.loop-i.invariant.1.1.1.1) in
-    scene_end _ (opened args.text.now args.store.now args.arena.now args.tables.now args.screens.now none) _ _ _ _ _ _ _ _ _ _ all c.begun-last.ensures c.loop-i.invariant.0
+    let all : c.loop.counter ≡ args.turns = omega arith in
+    scene_end _ (opened args.text.now args.store.now args.arena.now args.tables.now args.screens.now none) _ _ _ _ _ _ _ _ _ _ all c.begun-last.ensures c.loop.invariant
