@@ -7,7 +7,7 @@ use Rattle.image.specs.Image.{good, spot, file, was_found}
 use Rattle.passwords.specs.PasswordFile.{well_formed}
 use Rattle.octets.specs.declared.span.Span.{Span}
 use Rattle.setup.specs.declared.Setup.{Setup}
-use Rattle.setup.specs.declared.Outcome.{Outcome}
+use Rattle.setup.specs.Outcomes.{Outcome}
 use Rattle.setup.specs.Setup.{is_active}
 use Rattle.setup.specs.Rules.{limits}
 use Rattle.setup.specs.Reading.{read, refusal, permission_table}

@@ -6,7 +6,7 @@ use Rattle.checks.specs.Laws.{not-due, after-refused}
 use Rattle.checks.specs.Settle.{settle_done, settle-refused}
 use Rattle.octets.specs.declared.span.Span.{Span}
 use Rattle.setup.specs.declared.Setup.{Setup}
-use Rattle.setup.specs.declared.Outcome.{Outcome}
+use Rattle.setup.specs.Outcomes.{Outcome}
 use Rattle.setup.specs.Reading.{read, refusal, permission_table}
 use Rattle.begin.specs.Files.{dseg_files, password_files}
 use Rattle.octets.specs.Lists.{over}

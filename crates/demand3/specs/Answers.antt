@@ -2,7 +2,7 @@
 use Rattle.std.specs.Prelude.{Bool, List, ◌≡◌, ℕ, length}
 use Rattle.std.proofs.Common.{sym, ap, ◌∙◌}
 use Rattle.checks.specs.Settle.{settle}
-use Rattle.setup.specs.declared.Outcome.{Outcome}
+use Rattle.setup.specs.Outcomes.{Outcome}
 use Rattle.begin.specs.Start.{Beginning, filled, carried_out, verdict}
 use Rattle.begin.specs.Start.{start as begin}
 use Rattle.terminal.specs.declared.Terminal.{Terminal}

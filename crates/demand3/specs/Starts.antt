@@ -3,7 +3,7 @@ use Rattle.std.specs.Prelude.{Bool, true, false, List, ◌≡◌, length, get_or
 use Rattle.std.proofs.Common.{sym, ap, ◌∙◌, lt-ltb, arith}
 use Rattle.checks.specs.Settle.{settle}
 use Rattle.setup.specs.declared.Setup.{Setup}
-use Rattle.setup.specs.declared.Outcome.{Outcome}
+use Rattle.setup.specs.Outcomes.{Outcome}
 use Rattle.setup.specs.Setup.{is_active as activeOf}
 use Rattle.state.specs.declared.Kept.{Kept}
 use Rattle.state.specs.declared.Plan.{Plan}

@@ -1,6 +1,6 @@
 -- Crate setup: two results that one contract allows are equal. A theorem for each public function, in the order of the source.
 use Rattle.std.specs.Prelude.{Bool, List, ◌≡◌, ℕ}
-use Rattle.setup.specs.declared.Outcome.{Outcome}
+use Rattle.setup.specs.Outcomes.{Outcome}
 use Rattle.setup.specs.declared.Setup.{Setup}
 use Rattle.setup.specs.Setup.{is_active, has_code}
 use Rattle.setup.specs.Reading.{permission_table, read as Reading·read}

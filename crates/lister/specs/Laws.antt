@@ -1,5 +1,5 @@
 -- What the functions of the listing are proved by.
-use Rattle.std.specs.Prelude.{Bool, true, false, Ok, Err, ◌||◌, List, [], ◌∷◌, ◌++◌, ◌≡◌, refl, ℕ, ◌+◌, ◌≤◌, ◌<◌, min, eqb, length, drop, get_or}
+use Rattle.std.specs.Prelude.{Bool, true, false, Result, Ok, Err, ◌||◌, List, [], ◌∷◌, ◌++◌, ◌≡◌, refl, ℕ, ◌+◌, ◌≤◌, ◌<◌, min, eqb, length, drop, get_or}
 use Rattle.std.proofs.Common.{add-one, arith, length-drop, take_all, le-leb, lt-ltb, le-ltb, eq-eqb, ne_eqb}
 use Rattle.std.specs.List.{list_all}
 use Rattle.std.proofs.lemmas.Bool.{lt-leb}
@@ -16,11 +16,14 @@ use Rattle.setup.specs.Rules.{limits}
 use Rattle.setup.specs.Reading.{read}
 use Rattle.setup.specs.declared.Segment.{Segment}
 use Rattle.setup.specs.declared.Setup.{Setup}
-use Rattle.setup.specs.declared.Outcome.{Outcome}
+use Rattle.checks.specs.Refusals.{number_of}
+use Rattle.checks.specs.declared.refusal.Refusal.{Refusal}
+use Rattle.setup.specs.declared.Refused.{Refused}
+use Rattle.setup.specs.Views.{outcome_of, some_number}
 use Rattle.lister.specs.declared.lines_of.Kind.{Kind}
 use Rattle.lister.specs.declared.lines_of.Kind.TheVariants.{Dsegs, Msegs}
 use Rattle.lister.specs.Kinds.{letter, what, row_lines}
-use Rattle.lister.specs.Outcomes.{answer_behind}
+use Rattle.lister.specs.Outcomes.{said, answer_behind}
 use Rattle.lister.specs.Listing.{Listed, result_of, shown, dseg_lines, mseg_lines, lines_of, partition_lines, setup_lines, answer, only_letters, flags, answer_to, listing}
 
 -- ---- one line more
@@ -105,20 +108,21 @@ letters_all (b ∷ row) = rw (letters_all row)
 pub no-letters : (letters text : List ℕ) (good : Bool) → good ≡ list_all is_letter letters → good ≡ false → refusal_line 401 0 ≡ answer_behind letters text
 no-letters letters text good g b = rw (← letters_all letters, ← g, b)
 
+-- what a reading says is the answer to what it comes to
+said_of : (text : List ℕ) (x : Result Setup Refused) → said text x ≡ answer text (outcome_of x)
+unfolding answer
+said_of text (Ok s) = refl
+said_of text (Err r) = rw (some_number r.refusal)
+
 module _ (letters text : List ℕ) (good : Bool) (g : good ≡ list_all is_letter letters) (t : good ≡ true) (count : ℕ) (active : List Bool) (n : ℕ)
     (c : count ≡ min (length letters) 9) (a : active ≡ flags letters) (l : n ≡ limits count active (length text)) where
-  pub outside : (n ≡ 0 → ⊥) → refusal_line n 0 ≡ answer_behind letters text
+  pub outside : (r : Refusal) → number_of r ≡ n → refusal_line (number_of r) 0 ≡ answer_behind letters text
   unfolding answer_to
-  outside h = rw (← letters_all letters, ← g, t, ← c, ← a, ← l, ne_eqb n 0 h)
+  outside r e = rw (← letters_all letters, ← g, t, ← c, ← a, ← l, ← e, some_number r)
 
-  module _ (o : Outcome) (z : n ≡ 0) (r : o ≡ read false [] text count active) where
-    pub refused : (o.number ≡ 0 → ⊥) → refusal_line o.number o.line ≡ answer_behind letters text
-    unfolding answer_to answer
-    refused h = rw (← letters_all letters, ← g, t, ← c, ← a, ← l, eq-eqb n 0 z, ← r, ne_eqb o.number 0 h)
-
-    pub accepted : o.number ≡ 0 → setup_lines text o.setup ≡ answer_behind letters text
-    unfolding answer_to answer
-    accepted e = rw (← letters_all letters, ← g, t, ← c, ← a, ← l, eq-eqb n 0 z, ← r, eq-eqb o.number 0 e)
+  pub read_said : n ≡ 0 → (x : Result Setup Refused) → outcome_of x ≡ read false [] text count active → said text x ≡ answer_behind letters text
+  unfolding answer_to
+  read_said z x r = rw (← letters_all letters, ← g, t, ← c, ← a, ← l, eq-eqb n 0 z, ← r) (said_of text x)
 
 -- ---- the first line, as it is found
 

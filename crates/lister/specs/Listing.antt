@@ -10,7 +10,7 @@ use Rattle.setup.specs.Rules.{limits}
 use Rattle.setup.specs.Reading.{read}
 use Rattle.setup.specs.declared.Segment.{Segment}
 use Rattle.setup.specs.declared.Setup.{Setup}
-use Rattle.setup.specs.declared.Outcome.{Outcome}
+use Rattle.setup.specs.Outcomes.{Outcome}
 use Rattle.lister.specs.declared.Short.{Short}
 
 -- ---- the lines of a set-up

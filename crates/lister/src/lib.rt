@@ -1,8 +1,9 @@
 // The listing of a set-up text, from input bytes to output bytes.
 #![tactic(auto)]
 
+use checks::Refusal;
 use octets::parts;
-use setup::Setup;
+use setup::{Refused, Setup};
 
 mod lines_of;
 mod row;
@@ -16,16 +17,9 @@ ghost use Rattle.lister.specs.Outcomes.{said, answer_behind};
 #[derive(Clone, Copy, Debug, PartialEq, Eq)]
 pub struct Short;
 
-// A refusal, by its number and the line of the text that it is of.
-#[derive(Clone, Copy, Debug)]
-struct Refused {
-    number: u32,
-    line: usize,
-}
-
 // Another byte in the first line, or no line feed behind it.
 const BAD_LETTERS: Refused = Refused {
-    number: 401,
+    refusal: Refusal::Setup,
     line: 0,
 };
 
@@ -38,18 +32,8 @@ fn read(letters: &[u8], text: &[u8]) -> Result<Setup, Refused>
     }
     let count = letters.len().min(9) as u32;
     let active = row::flags(letters);
-    let number = setup::limits(count, active, text.len());
-    if number != 0 {
-        return Err(Refused { number, line: 0 });
-    }
-    let outcome = setup::read(false, &[], text, count, active);
-    if outcome.number != 0 {
-        return Err(Refused {
-            number: outcome.number,
-            line: outcome.line,
-        });
-    }
-    Ok(outcome.setup)
+    setup::limits(count, active, text.len())?;
+    setup::read(false, &[], text, count, active)
 }
 
 /// How many bytes the listing of any input has, written to the start of `output`.

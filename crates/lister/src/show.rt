@@ -6,9 +6,9 @@ ghost use Rattle.lister.specs.Listing.{result_of, shown};
 ghost use Rattle.lister.specs.Outcomes.{said};
 
 use super::lines_of::put_setup;
-use super::{Refused, Short};
+use super::Short;
 use lines::Output;
-use setup::Setup;
+use setup::{Refused, Setup};
 
 // The lines of a set-up, or the line of a refusal.
 fn put_outcome(out: &mut Output, text: &[u8], outcome: &Result<Setup, Refused>)
@@ -16,7 +16,7 @@ fn put_outcome(out: &mut Output, text: &[u8], outcome: &Result<Setup, Refused>)
 {
     match outcome {
         Ok(setup) => put_setup(out, text, setup),
-        Err(refused) => out.put_refusal(refused.number, refused.line),
+        Err(refused) => out.put_refusal(refused.refusal.number(), refused.line),
     }
 }
 

@@ -9,7 +9,7 @@ use Rattle.octets.specs.PartLaws.{length_part}
 use Rattle.lines.specs.Lines.{digits, decimal, header_line, permission, dseg, mseg, fields, line, refusal_line}
 use Rattle.setup.specs.declared.Segment.{Segment}
 use Rattle.setup.specs.declared.Setup.{Setup}
-use Rattle.setup.specs.declared.Outcome.{Outcome}
+use Rattle.setup.specs.Outcomes.{Outcome}
 use Rattle.octets.specs.Spans.{bytes_of}
 use Rattle.setup.specs.Setup.{is_active}
 use Rattle.setup.specs.Values.{blank}

@@ -15,7 +15,7 @@ use Rattle.statements.specs.Statements.{byte, head_at, tail_at, code_at, dseg_at
 use Rattle.statements.specs.Kinds.{by_token}
 use Rattle.setup.specs.declared.Segment.{Segment}
 use Rattle.setup.specs.declared.Setup.{Setup}
-use Rattle.setup.specs.declared.Outcome.{Outcome}
+use Rattle.setup.specs.Outcomes.{Outcome}
 use Rattle.setup.specs.Setup.{no_segment, begun, with_code, with_dseg, with_mseg}
 use Rattle.setup.specs.Rules.{code_checks, dseg_checks, mseg_checks, code_missing}
 use Rattle.setup.specs.Reading as reading

@@ -63,6 +63,15 @@ pub struct Refused {
     pub line: usize,
 }
 
+/// A refusal that has no line.
+impl From<Refusal> for Refused {
+    ghost from_gives = { λ refusal refused. refused ≡ record { refusal = refusal; line = 0 } };
+
+    fn from(refusal: Refusal) -> Refused {
+        Refused { refusal, line: 0 }
+    }
+}
+
 // A segment more in a row.
 fn push(row: &mut [Segment; 16], count: &mut usize, segment: Segment)
     requires { count.old < 16 }
@@ -192,10 +201,7 @@ fn ended(setup: Setup) -> Result<Setup, Refused>
     ensures { outcome_of result ≡ ended setup }
 {
     if rules::code_missing(&setup) {
-        return Err(Refused {
-            refusal: Refusal::NoCode,
-            line: 0,
-        });
+        return Err(Refusal::NoCode.into());
     }
     Ok(setup)
 }
@@ -227,8 +233,5 @@ pub fn read(
         }
         progress = reading.judge(place, &progress)?;
     }
-    Err(Refused {
-        refusal: Refusal::Syntax,
-        line: 0,
-    })
+    Err(Refusal::Syntax.into())
 }

@@ -13,8 +13,8 @@ use Rattle.statements.specs.declared.Statement.TheVariants.{Code, Dseg, Mseg, Ma
 use Rattle.octets.specs.declared.span.Span.{Span}
 use Rattle.setup.specs.declared.Segment.{Segment}
 use Rattle.setup.specs.declared.Setup.{Setup}
-use Rattle.setup.specs.declared.Judged.{Judged}
-use Rattle.setup.specs.declared.Outcome.{Outcome}
+use Rattle.setup.specs.Outcomes.{Judged}
+use Rattle.setup.specs.Outcomes.{Outcome}
 use Rattle.octets.specs.Spans.{no_span, bytes_of}
 use Rattle.setup.specs.Setup.{no_segment, begun, among, paths_of, path_taken, with_code, with_dseg, with_mseg}
 use Rattle.setup.specs.Rules.{dseg_checks}

@@ -14,8 +14,8 @@ use Rattle.statements.specs.declared.Statement.{Statement}
 use Rattle.statements.specs.declared.Statement.TheVariants.{Code, Dseg, Mseg, Malformed}
 use Rattle.octets.specs.declared.span.Span.{Span}
 use Rattle.setup.specs.declared.Setup.{Setup}
-use Rattle.setup.specs.declared.Judged.{Judged}
-use Rattle.setup.specs.declared.Outcome.{Outcome}
+use Rattle.setup.specs.Outcomes.{Judged}
+use Rattle.setup.specs.Outcomes.{Outcome}
 use Rattle.octets.specs.Spans.{no_span, bytes_of}
 use Rattle.setup.specs.Setup.{begun, is_active, has_code, with_code, with_dseg, with_mseg}
 use Rattle.setup.specs.Rules.{code_checks, dseg_checks, mseg_checks}

@@ -7,7 +7,7 @@ use Rattle.checks.specs.Laws.{not-due, second-not-due}
 use Rattle.checks.specs.Settle.{settle, by_settle}
 use Rattle.image.specs.Image.{good}
 use Rattle.setup.specs.declared.Setup.{Setup}
-use Rattle.setup.specs.declared.Outcome.{Outcome}
+use Rattle.setup.specs.Outcomes.{Outcome}
 use Rattle.setup.specs.Rules.{limits, bad_partitions}
 use Rattle.setup.specs.Reading.{read, permission_table}
 use Rattle.state.specs.declared.Kept.{Kept}

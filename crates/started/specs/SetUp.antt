@@ -19,8 +19,8 @@ use Rattle.statements.specs.declared.Statement.{Statement}
 use Rattle.statements.specs.declared.Statement.TheVariants.{Code, Dseg, Mseg, Malformed}
 use Rattle.setup.specs.declared.Segment.{Segment}
 use Rattle.setup.specs.declared.Setup.{Setup}
-use Rattle.setup.specs.declared.Judged.{Judged}
-use Rattle.setup.specs.declared.Outcome.{Outcome}
+use Rattle.setup.specs.Outcomes.{Judged}
+use Rattle.setup.specs.Outcomes.{Outcome}
 use Rattle.octets.specs.Spans.{bytes_of}
 use Rattle.setup.specs.Setup.{no_segment, begun, with_code, with_dseg, with_mseg}
 use Rattle.setup.specs.Rules.{reserved, absent, dseg_checks, code_missing}

@@ -44,6 +44,7 @@ pub returns : goal.returns
 unfolding read
 returns c = let args = c.args in
     let before = c.loop.progress in
-    sym (turn_out args.look args.image.now args.text.now (41 - c.loop.counter) before.next (rank_of before.rank) before.setup (omega arith))
+    rw c.into.ensures
+    (sym (turn_out args.look args.image.now args.text.now (41 - c.loop.counter) before.next (rank_of before.rank) before.setup (omega arith))
     ∙ sym c.loop.invariant.0
-    ∙ rw c.begun.ensures
+    ∙ rw c.begun.ensures)
