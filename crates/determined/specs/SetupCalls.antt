@@ -1,5 +1,11 @@
 -- Crate setup: two results that one contract allows are equal. A theorem for each public function, in the order of the source.
-use Rattle.std.specs.Prelude.{Bool, List, ◌≡◌, ℕ}
+use Rattle.std.specs.Prelude.{Bool, List, ◌≡◌, refl, ℕ, Result, Ok, Err}
+use Rattle.std.proofs.Common.{ap, ap₂, sym, ◌∙◌}
+use Rattle.checks.specs.Refusals.{answer}
+use Rattle.checks.specs.declared.refusal.Refusal.{Refusal}
+use Rattle.begin.specs.Numbers.{number-same, number-not_zero}
+use Rattle.setup.specs.declared.Refused.{Refused}
+use Rattle.setup.specs.Views.{outcome_of}
 use Rattle.setup.specs.Outcomes.{Outcome}
 use Rattle.setup.specs.declared.Setup.{Setup}
 use Rattle.setup.specs.Setup.{is_active, has_code}
@@ -16,9 +22,25 @@ has_code_lem self p = plain _
 pub permission-table : (setup : Setup) → AtMostOne (λ (x : List (List ℕ)). x ≡ permission_table setup)
 permission-table setup = plain _
 
-pub limits : (count : ℕ) (active : List Bool) (bytes : ℕ) → AtMostOne (λ (x : ℕ). x ≡ Rules·limits count active bytes)
-limits count active bytes = plain _
+-- a number is that of one refusal, or of none
+one_answer : (x y : Result (Unit {0}) Refusal) → answer x ≡ answer y → x ≡ y
+one_answer (Ok u) (Ok v) e = refl
+one_answer (Ok u) (Err r) e = absurd (number-not_zero r (sym e))
+one_answer (Err r) (Ok v) e = absurd (number-not_zero r e)
+one_answer (Err r) (Err s) e = ap (λ (n : Refusal). Err n) (number-same r s e)
+
+pub limits : (count : ℕ) (active : List Bool) (bytes : ℕ) → AtMostOne (λ (x : Result (Unit {0}) Refusal). answer x ≡ Rules·limits count active bytes)
+limits count active bytes x y p q = one_answer x y (p ∙ sym q)
+
+-- and so an outcome is that of one result
+one_outcome : (x y : Result Setup Refused) → outcome_of x ≡ outcome_of y → x ≡ y
+one_outcome (Ok s) (Ok t) e = ap (λ (o : Outcome). Ok o.setup) e
+one_outcome (Ok s) (Err r) e = absurd (number-not_zero r.refusal (sym (ap (λ (o : Outcome). o.number) e)))
+one_outcome (Err r) (Ok t) e = absurd (number-not_zero r.refusal (ap (λ (o : Outcome). o.number) e))
+one_outcome (Err r) (Err s) e =
+    ap₂ (λ (n : Refusal) (l : ℕ). Err (record { refusal = n; line = l }))
+    (number-same r.refusal s.refusal (ap (λ (o : Outcome). o.number) e)) (ap (λ (o : Outcome). o.line) e)
 
 pub read : (look : Bool) (image text : List ℕ) (count : ℕ) (active : List Bool)
-    → AtMostOne (λ (x : Outcome). x ≡ Reading·read look image text count active)
-read look image text count active = plain _
+    → AtMostOne (λ (x : Result Setup Refused). outcome_of x ≡ Reading·read look image text count active)
+read look image text count active x y p q = one_outcome x y (p ∙ sym q)

@@ -5,8 +5,8 @@ ghost use Rattle.lines.specs.Wrote.{Put, most};
 ghost use Rattle.lister.specs.Listing.{result_of, shown};
 ghost use Rattle.lister.specs.Outcomes.{said};
 
-use super::lines_of::put_setup;
 use super::Short;
+use super::lines_of::put_setup;
 use lines::Output;
 use setup::{Refused, Setup};
 

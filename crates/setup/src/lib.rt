@@ -216,11 +216,7 @@ pub fn read(
 ) -> Result<Setup, Refused>
     ensures { outcome_of result ≡ read look image.now text.now count active }
 {
-    let reading = judging::Reading {
-        look,
-        image,
-        text,
-    };
+    let reading = judging::Reading { look, image, text };
     let mut progress = judging::Progress {
         next: 0,
         rank: judging::Rank::Start,

@@ -22,6 +22,7 @@ const LARGEST: u64 = 16_777_216;
 
 // Permissions in a segment's row.
 const NO_ACCESS: u8 = 0;
+
 const READ_WRITE: u8 = 2;
 
 // Some partition, of the `count` first, is active.
@@ -66,7 +67,10 @@ fn path_taken(text: &[u8], path: &[u8], setup: &Setup) -> bool
     ensures { result ≡ path_taken text.now path.now setup.now }
 {
     let of_code = setup.code.iter().any(|code| same_path(text, *code, path));
-    let of_dseg = setup.dsegs.iter().any(|dseg| same_path(text, dseg.path, path));
+    let of_dseg = setup
+        .dsegs
+        .iter()
+        .any(|dseg| same_path(text, dseg.path, path));
     of_code | of_dseg
 }
 
@@ -199,12 +203,7 @@ pub fn dseg_checked(
 
 // The first refusal that is due for MSEG[index] = { size, grants }.
 #[tactic(auto, unfolding(crate::specs::Rules::mseg_checks, checks::specs::Checks::after, checks::specs::Checks::refused))]
-pub fn mseg_checked(
-    setup: &Setup,
-    index: usize,
-    size: u64,
-    grants: Grants,
-) -> Result<(), Refusal>
+pub fn mseg_checked(setup: &Setup, index: usize, size: u64, grants: Grants) -> Result<(), Refusal>
     ensures { answer result ≡ after 0 (mseg_checks setup.now index size grants.host grants.permissions.count grants.permissions.bits) }
 {
     if SEGMENTS <= setup.msegcount {

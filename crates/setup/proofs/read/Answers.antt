@@ -34,11 +34,12 @@ loop-preserved c = let args = c.args in
     let before = c.loop.progress in
     let judged = rw c.in_ok-progress.was at c.judge.ensures in
     let after = c.in_ok-progress.progress in
-    let one : 41 - c.loop.counter - 1 ≡ 41 - (c.loop.counter + 1) = omega arith in
-    (c.loop.invariant.0
-    ∙ rw one at (turn_more args.look args.image.now args.text.now (41 - c.loop.counter) before.next (rank_of before.rank) before.setup (omega arith) _
-    c.token_place-place.ensures c.if-text-place.false (judged_of (Ok after)) judged refl),
-    omega arith)
+    let one : 41 - c.loop.counter - 1 ≡ 41 - (c.loop.counter + 1) = omega arith in (
+      c.loop.invariant.0
+          ∙ rw one at (turn_more args.look args.image.now args.text.now (41 - c.loop.counter) before.next (rank_of before.rank) before.setup (omega arith) _
+          c.token_place-place.ensures c.if-text-place.false (judged_of (Ok after)) judged refl),
+      omega arith,
+    )
 
 pub returns : goal.returns
 unfolding read
