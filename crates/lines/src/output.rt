@@ -6,7 +6,8 @@ use octets::parts;
 // No row is as long as this.
 const MOST: usize = 9223372036854775808;
 
-/// A row that is written, and the place in it that comes next. A place behind the row's end is one too: it counts what did not fit.
+/// A row that is written, and the place in it that comes next. A place behind the row's end is one too: it counts what
+/// did not fit.
 #[derive(Drop)]
 pub struct Output<'a> {
     pub row: &'a mut [u8],

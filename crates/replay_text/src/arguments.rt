@@ -1,10 +1,11 @@
 // The words behind a line's first one, read by a pattern that has a letter for each:
-// n a number, l the length of a lent buffer (at most 4,096), a the length of an area (at most 65,536), b bytes (at most 4,096),
-// y one byte, s `set` or `clear`, o `yes` or `no`.
+// n a number, l the length of a lent buffer (at most 4,096), a the length of an area (at most 65,536),
+// b bytes (at most 4,096), y one byte, s `set` or `clear`, o `yes` or `no`.
 ghost use Rattle.std.specs.Prelude.{◌≡◌, ◌≤◌, get_or};
 ghost use Rattle.replay_text.specs.Words.{number_of};
 ghost use Rattle.replay_text.specs.Hex.{size_of, bytes_of};
-ghost use Rattle.replay_text.specs.Arguments.{none, with_number, refused, kept, limit, of_number, choice, of_byte, told, laid, argument, arguments_of};
+ghost use Rattle.replay_text.specs.Arguments.{none, with_number, refused, kept, limit, of_number, choice};
+ghost use Rattle.replay_text.specs.Arguments.{of_byte, told, laid, argument, arguments_of};
 
 use super::{MOST, hex, words};
 use octets::{parts, search};
@@ -12,7 +13,8 @@ use octets::{parts, search};
 // The most bytes that a call is lent.
 const MOST_LENT: usize = 4096;
 
-/// What was read: the numbers in their order (a length for bytes, 1 and 0 for a choice), and how many bytes were laid into the lent row.
+/// What was read: the numbers in their order (a length for bytes, 1 and 0 for a choice), and how many bytes were laid
+/// into the lent row.
 #[derive(Clone, Copy, Debug)]
 pub struct Arguments {
     pub count: usize,
@@ -20,8 +22,8 @@ pub struct Arguments {
     pub held: usize,
 }
 
-// What was read so far, and whether it is good. A word that is not is no reason to stop: the bytes of those behind it are laid all the same,
-// and it is only at the end that nothing is answered.
+// What was read so far. Stays a flag beside the rest, and no Option: a refused word ends nothing. The bytes of the words
+// behind it are laid all the same, each behind those before (`read_words` of specs/Arguments).
 #[derive(Clone, Copy, Debug)]
 struct Sofar {
     good: bool,
@@ -154,8 +156,8 @@ fn argument(sofar: &mut Sofar, kind: u8, word: &[u8], given: &mut [u8])
     }
 }
 
-/// Reads the words from place `at` on. They have to be as many as the pattern has letters: a word that is missing is read as an empty
-/// one, which no kind allows. `None` where a word is not of its kind, is missing, or is left.
+/// Reads the words from place `at` on. They have to be as many as the pattern has letters: a word that is missing is read
+/// as an empty one, which no kind allows. `None` where a word is not of its kind, is missing, or is left.
 pub fn read(pattern: &[u8], line: &[u8], at: usize, given: &mut [u8]) -> Option<Arguments>
     ensures arguments { result ≡ kept (arguments_of pattern.now line.now at given.old).sofar }
     ensures given { given.new ≡ (arguments_of pattern.now line.now at given.old).given }

@@ -16,7 +16,6 @@ fn is_hex(b: u8) -> bool
 }
 
 // What a digit counts; any other byte counts 0.
-#[tactic(auto, using(crate::specs::HexLaws::figure_worth, crate::specs::HexLaws::letter_worth, crate::specs::HexLaws::below_worth, crate::specs::HexLaws::between_worth, crate::specs::HexLaws::above_worth))]
 fn worth(b: u8) -> u8
     ensures counts { result ≡ worth b }
     ensures small { result ≤ 15 }

@@ -41,8 +41,8 @@ fn flags(word: &[u8]) -> [bool; 8]
     std::array::from_fn(|i| is_a(word, i))
 }
 
-/// One letter or more, A for an active partition and P for a passive one; those behind the ninth are read and dropped. `None` where
-/// it is no such word.
+/// One letter or more, A for an active partition and P for a passive one; those behind the ninth are read and dropped.
+/// `None` where it is no such word.
 pub fn read(word: &[u8]) -> Option<Letters>
     ensures { result ≡ letters_of word.now }
 {

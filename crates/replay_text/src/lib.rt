@@ -1,4 +1,4 @@
-// The parts of a replay text (docs/REPLAY.md): lines and words, numbers, bytes in hex digits, and the arguments of a line.
+// The parts of a replay text (docs/REPLAY.md): lines and words, numbers, bytes in hex digits, and a line's arguments.
 //
 // Any bytes can be asked. Nothing here knows of a terminal.
 #![tactic(auto)]
