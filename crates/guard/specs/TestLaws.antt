@@ -1,10 +1,22 @@
--- Laws of the state test: its parts as sums that cannot wrap find them.
-use Rattle.std.specs.Prelude.{Bool, true, false, ◌&&◌, ◌≡◌, refl, ℕ, ◌+◌, ◌-◌, ◌≤◌, ◌<◌, leb}
-use Rattle.std.proofs.Common.{sym, arith, leb-true, leb-false, le-leb}
+-- Laws of the state test: its parts as a loop and a sum that cannot wrap find them.
+use Rattle.std.specs.Prelude.{Bool, true, false, ◌&&◌, ◌≡◌, refl, ℕ, ◌+◌, ◌-◌, ◌≤◌, ◌<◌, leb, length, take, get_or, List}
+use Rattle.std.proofs.Common.{sym, arith, leb-true, leb-false, le-leb, take_all}
 use Rattle.std.proofs.Math.Bool.{and-eq-true_iff}
 use Rattle.std.proofs.lemmas.Bool.{lt-leb}
+use Rattle.std.proofs.lemmas.List.Folds.{list_all_more}
 use Rattle.state.specs.declared.Plan.{Plan}
-use Rattle.guard.specs.Test.{good_counts}
+use Rattle.guard.specs.Test.{all_of, good_counts}
+
+module _ {A : Type 0} (f : A → Bool) where
+  -- one turn of a loop that has tested the first i of n
+  pub all_of-step : {n : ℕ} (l : List A) (i : ℕ) (d : A) (all : Bool) → length l ≡ n → i < n → all ≡ all_of f (take i l)
+      → (all && f (get_or l i d)) ≡ all_of f (take (i + 1) l)
+  unfolding all_of
+  all_of-step {n} l i d all size h e = let k : i < length l = omega arith in rw (list_all_more f l i d k, e)
+
+  -- its end
+  pub all_of_end : {n : ℕ} (l : List A) (i : ℕ) (all : Bool) → length l ≡ n → n ≤ i → all ≡ all_of f (take i l) → all ≡ all_of f l
+  all_of_end {n} l i all size h e = let k : length l ≤ i = omega arith in rw (take_all i l k) at e
 
 -- a place and a length, without their sum
 pub no_wrap : (place n area : ℕ) → place ≤ area → leb n (area - place) ≡ leb (place + n) area
