@@ -1,9 +1,10 @@
 -- Laws of a thing for each number below n.
-use Rattle.std.specs.Prelude.{List, [], ◌∷◌, ◌++◌, ◌≡◌, length, take, set, refl, ℕ, zero, suc, ◌+◌, ◌≤◌, ◌<◌, min, get_or}
-use Rattle.std.proofs.Common.{sym, ◌∙◌, not-suc-le-zero, add-one, length-append, take_all, arith, take-suc-set}
+use Rattle.std.specs.Prelude.{List, [], ◌∷◌, ◌++◌, ◌≡◌, length, take, set, refl, ℕ, zero, suc, ◌+◌, ◌≤◌, ◌<◌, get_or, sum}
+use Rattle.std.proofs.Common.{sym, ◌∙◌, not-suc-le-zero, add-one, length-append, take_all, arith, take-suc-set, ext_get_or}
 use Rattle.std.proofs.Math.Decide.{dec_le}
 use Rattle.std.proofs.Math.ListN.{get_or-append}
 use Rattle.std.proofs.lemmas.List.{get_or_at}
+use Rattle.std.proofs.lemmas.List.Sums.{sum_by-append}
 use Rattle.begin.specs.Each.{firsts, total}
 
 module _ {A : Type 0} where
@@ -21,6 +22,11 @@ module _ {A : Type 0} where
       go rest (yes k) = let e : i ≡ n = omega arith in rw e (get_or_at (firsts f n) (f n) [] d n (length-firsts f n))
       go rest (no k) = let less : i < n = omega arith in get_or-append (firsts f n) (f n ∷ []) d i (rw length-firsts less) ∙ rest less
 
+  pub firsts_of : (f : ℕ → A) (row : List A) (n : ℕ) → length row ≡ n → ((i : ℕ) (d : A) → i < n → get_or row i d ≡ f i) → row ≡ firsts f n
+  firsts_of f row n h each =
+      ext_get_or (f 0) row (firsts f n) (h ∙ sym (length-firsts f n))
+      (λ i k. let low : i < n = omega (arith, h) in each i (f 0) low ∙ sym (get_or-firsts f n i (f 0) low))
+
   -- a row that is filled in order
   pub firsts-step : (f : ℕ → A) (row : List A) (i : ℕ) (x : A) → i < length row → take i row ≡ firsts f i → x ≡ f i
       → take (i + 1) (set row i x) ≡ firsts f (i + 1)
@@ -31,6 +37,11 @@ module _ {A : Type 0} where
   firsts_end f row i n h k e = sym (take_all i row (omega arith)) ∙ e ∙ rw k
 
 -- ---- sums
+
+pub sum-firsts : (f : ℕ → ℕ) (n : ℕ) → sum (firsts f n) ≡ total f n
+unfolding firsts total
+sum-firsts f zero = refl
+sum-firsts f (suc n) = rw (sum_by-append (λ x. x) (firsts f n) (f n ∷ [])) (omega (arith, sum-firsts f n))
 
 pub total_mono : (f : ℕ → ℕ) (i n : ℕ) → i ≤ n → total f i ≤ total f n
 unfolding total
@@ -45,10 +56,9 @@ pub total-more : (f : ℕ → ℕ) (i : ℕ) → total f (i + 1) ≡ total f i +
 unfolding total
 total-more f i = rw add-one
 
--- a sum that stays inside a limit is not cut off there
-pub sum_step : (f : ℕ → ℕ) (i n limit at size : ℕ) → total f n ≤ limit → i < n → at ≡ total f i → size ≡ f i
-    → min (at + size) limit ≡ total f (i + 1)
-sum_step f i n limit at size h k e g =
+-- a sum grows on its way
+pub sum_inside : (f : ℕ → ℕ) (i n : ℕ) → i < n → total f i + f i ≤ total f n
+sum_inside f i n k =
     let mono : total f (i + 1) ≤ total f n = total_mono f (i + 1) n (omega arith) in
     let more : total f (i + 1) ≡ total f i + f i = total-more f i in
     omega arith

@@ -1,4 +1,4 @@
--- Where start finds its files in the store (document 01, "Store image and password file").
+-- Where start finds its files in the store.
 use Rattle.std.specs.Prelude.{cond, List, [], ◌∷◌, ℕ, ◌+◌, ltb, get_or, Option, Some, None}
 use Rattle.image.specs.Image.{spot}
 use Rattle.octets.specs.declared.span.Span.{Span}

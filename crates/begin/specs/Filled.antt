@@ -1,4 +1,4 @@
--- What start writes into the lent areas (document 01, "Set-up text"), from its plan.
+-- What start writes into the lent areas, from its plan.
 use Rattle.std.specs.Prelude.{cond, List, ℕ, zero, suc, ◌*◌, ltb, replicate}
 use Rattle.octets.specs.Lists.{part, write_at}
 use Rattle.octets.specs.declared.span.Span.{Span}

@@ -28,8 +28,8 @@ module _ (f : ℕ → List ℕ) (i at : ℕ) (area now : List ℕ) (so_far : now
       let p : at ≡ min (length (joined f i)) (length (over (joined f i) area)) = rw length_over place in
       rw (e, so_far, p, write_at-min, joined-more) (behind (joined f i) (f i) area)
 
-  pub place-more : (next : ℕ) → next ≡ min (at + length (f i)) (length now) → next ≡ min (length (joined f (i + 1))) (length area)
-  place-more next e =
+  pub place_more : (next : ℕ) → next ≡ min (at + length (f i)) (length now) → next ≡ min (length (joined f (i + 1))) (length area)
+  place_more next e =
       let room : length now ≡ length area = same-room in
       let more : length (joined f (i + 1)) ≡ length (joined f i) + length (f i) = rw (joined-more, length-append) in
       omega arith

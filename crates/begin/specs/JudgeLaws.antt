@@ -1,45 +1,23 @@
 -- Areas too short and bad password files, looked at one by one.
-use Rattle.std.specs.Prelude.{Bool, not, ◌&&◌, ◌||◌, List, ◌≡◌, ℕ, ◌+◌, ◌-◌, ◌*◌, ◌/◌, ◌≤◌, ◌<◌, min, eqb, ltb, get_or}
-use Rattle.std.proofs.Common.{add-one, arith, lt-ltb, le-ltb}
+use Rattle.std.specs.Prelude.{Bool, not, ◌&&◌, ◌||◌, List, [], ◌∷◌, ◌++◌, ◌≡◌, refl, ℕ, zero, suc, ◌+◌, ◌*◌, ◌/◌, ◌≤◌, ◌<◌, eqb, ltb, length}
+use Rattle.std.specs.List.{enumerate_from, list_any}
+use Rattle.std.proofs.Common.{add-zero, zero-add, ap, ◌∙◌, arith, lt-ltb, le-ltb}
+use Rattle.std.proofs.Math.Bool.{or_comm, or-false}
+use Rattle.std.proofs.lemmas.List.Folds.{list_any-append}
 use Rattle.std.proofs.Math.Decide.{dec_le}
 use Rattle.passwords.specs.PasswordFile.{well_formed}
 use Rattle.rows.specs.LikeLaws.{by_test}
 use Rattle.octets.specs.declared.span.Span.{Span}
 use Rattle.setup.specs.declared.Setup.{Setup}
-use Rattle.octets.specs.Spans.{no_span}
 use Rattle.setup.specs.Setup.{is_active}
-use Rattle.begin.specs.Each.{total}
-use Rattle.begin.specs.EachLaws.{total-more, get_or-firsts}
+use Rattle.begin.specs.Each.{firsts}
+use Rattle.begin.specs.EachLaws.{length-firsts}
 use Rattle.begin.specs.Files.{password_path, password_file, password_files}
 use Rattle.begin.specs.FilesLaws.{missing_place, found-bytes}
 use Rattle.begin.specs.Filled.{file_bytes}
 use Rattle.begin.specs.Start.{bad_file, bad_passwords}
 
 -- ---- 415
-
--- t is the sum so far, and `at` is where it or the limit is
-short-more : (limit t size : ℕ) → (ltb limit t || ltb (limit - min t limit) size) ≡ ltb limit (t + size)
-short-more limit t size = go (dec_le t limit)
-  where
-    go : Dec (t ≤ limit) → (ltb limit t || ltb (limit - min t limit) size) ≡ ltb limit (t + size)
-    go (no h) = let a : limit < t = omega arith in let b : limit < t + size = omega arith in rw (lt-ltb limit t a, lt-ltb limit (t + size) b)
-    go (yes h) = inside (dec_le (t + size) limit)
-      where
-        inside : Dec (t + size ≤ limit) → (ltb limit t || ltb (limit - min t limit) size) ≡ ltb limit (t + size)
-        inside (yes k) =
-            let a : size ≤ limit - min t limit = omega arith in
-            rw (le-ltb limit t h, le-ltb (limit - min t limit) size a, le-ltb limit (t + size) k)
-        inside (no k) =
-            let a : limit - min t limit < size = omega arith in
-            let b : limit < t + size = omega arith in
-            rw (le-ltb limit t h, lt-ltb (limit - min t limit) size a, lt-ltb limit (t + size) b)
-
-module _ (f : ℕ → ℕ) (i limit at size : ℕ) (short : Bool) (so_far : short ≡ ltb limit (total f i)) (place : at ≡ min (total f i) limit) (one : size ≡ f i) where
-  pub short-step : (short || ltb (limit - at) size) ≡ ltb limit (total f (i + 1))
-  short-step = rw (so_far, place, one, total-more) (short-more limit (total f i) (f i))
-
-  pub place-step : min (at + size) limit ≡ min (total f (i + 1)) limit
-  place-step = let more : total f (i + 1) ≡ total f i + f i = total-more f i in omega arith
 
 -- the screens that an area holds are fewer than the partitions
 pub screens-short : (bytes n : ℕ) → ltb (bytes / 2000) n ≡ ltb bytes (2000 * n)
@@ -54,19 +32,38 @@ screens-short bytes n = go (dec_le (2000 * n) bytes)
 
 -- ---- 416
 
-module _ (s : Setup) (store : List ℕ) (p : ℕ) where
-  wrong : List Span → Bool
-  wrong files = eqb (get_or files p no_span).place 0 || not (well_formed (file_bytes store (get_or files p no_span)))
+enumerate-append : {A : Type 0} (i : ℕ) (xs ys : List A) → enumerate_from i (xs ++ ys) ≡ enumerate_from i xs ++ enumerate_from (i + length xs) ys
+enumerate-append i [] ys = rw add-zero
+enumerate-append i (x ∷ xs) ys =
+    let e : i + suc (length xs) ≡ i + 1 + length xs = omega arith in
+    rw (e, enumerate-append (i + 1) xs ys)
 
-  bad-one : p < 8 → (is_active s p && wrong (password_files s store)) ≡ (is_active s p && bad_file (password_path p) store)
-  unfolding wrong bad_file password_files password_file
-  bad-one h =
+module _ (s : Setup) (store : List ℕ) where
+  -- what is looked at: an active partition's file
+  abbrev pub wrong : ℕ × Span → Bool
+  wrong x = is_active s x.0 && (eqb x.1.place 0 || not (well_formed (file_bytes store x.1)))
+
+  bad-one : (p : ℕ) → wrong (p, password_file s store p) ≡ (is_active s p && bad_file (password_path p) store)
+  unfolding bad_file password_file
+  bad-one p =
       by_test (is_active s p)
-      (λ e. rw (get_or-firsts (password_file s store) 8 p no_span h, e, missing_place (password_path p) store, found-bytes (password_path p) store))
+      (λ e. rw (e, missing_place (password_path p) store, found-bytes (password_path p) store))
       (λ e. rw e)
 
-  pub bad-step : (files : List Span) (bad : Bool) → p < 8 → files ≡ password_files s store → bad ≡ bad_passwords p s store
-      → ((is_active s p && (eqb (get_or files p no_span).place 0 || not (well_formed (file_bytes store (get_or files p no_span))))) || bad)
-      ≡ bad_passwords (p + 1) s store
-  unfolding bad_passwords wrong
-  bad-step files bad h e g = rw (add-one, e, g, bad-one h)
+  any-bad : (n : ℕ) → list_any wrong (enumerate_from 0 (firsts (password_file s store) n)) ≡ bad_passwords n s store
+  unfolding firsts bad_passwords
+  any-bad zero = refl
+  any-bad (suc n) =
+      rw (
+        enumerate-append 0 (firsts (password_file s store) n) (password_file s store n ∷ []),
+        list_any-append wrong (enumerate_from 0 (firsts (password_file s store) n)),
+        length-firsts (password_file s store) n,
+        any-bad n,
+        zero-add n,
+        or-false (wrong (n, password_file s store n)),
+      )
+      (or_comm (bad_passwords n s store) (wrong (n, password_file s store n)) ∙ ap (λ t. t || bad_passwords n s store) (bad-one n))
+
+  pub all-looked_at : (files : List Span) → files ≡ password_files s store → list_any wrong (enumerate_from 0 files) ≡ bad_passwords 8 s store
+  unfolding password_files
+  all-looked_at files e = rw e (any-bad 8)

@@ -1,4 +1,4 @@
--- What start fixes (document 01, "Set-up text"): the places of segments and password tables, and the first state.
+-- What start fixes: the places of segments and password tables, and the first state.
 use Rattle.std.specs.Prelude.{Bool, true, false, cond, List, ℕ, zero, suc, ◌+◌, ◌-◌, ltb, get_or, replicate}
 use Rattle.octets.specs.declared.span.Span.{Span}
 use Rattle.setup.specs.declared.Setup.{Setup}

@@ -1,5 +1,5 @@
--- Start (document 01, "Refusals at start, in order of checking").
-use Rattle.std.specs.Prelude.{Bool, true, false, not, ◌&&◌, ◌||◌, List, [], ◌∷◌, ℕ, zero, suc, ◌*◌, ltb, length}
+-- Start: the refusals in order of checking, and what a start makes.
+use Rattle.std.specs.Prelude.{Bool, true, false, not, ◌&&◌, ◌||◌, List, [], ◌∷◌, ℕ, zero, suc, ◌*◌, ltb, length, Result, Ok, Err}
 use Rattle.octets.specs.Lists.{over}
 use Rattle.checks.specs.Checks.{Check, ◌when◌, after}
 use Rattle.checks.specs.Settle.{settle}
@@ -14,7 +14,9 @@ use Rattle.setup.specs.Reading.{read, refusal, permission_table}
 use Rattle.state.specs.declared.Plan.{Plan}
 use Rattle.state.specs.declared.State.{State}
 use Rattle.state.specs.Empty.{no_plan, no_state}
-use Rattle.begin.specs.declared.Begun.{Begun}
+use Rattle.checks.specs.Refusals.{number_of}
+use Rattle.begin.specs.declared.Begun.{Begun as Accepted}
+use Rattle.setup.specs.declared.Refused.{Refused}
 use Rattle.begin.specs.Files.{password_path, dseg_files, password_files}
 use Rattle.begin.specs.Planned.{start_of, table_start, plan_of, first_state}
 use Rattle.begin.specs.Filled.{arena_image, tables_image, cleared}
@@ -64,6 +66,13 @@ verdict count active text store arena tables screens =
 
 -- ---- start
 
+-- a refusal's number and line, with an empty plan and state; or 0 and 0, with the plan and the first state
+pub record Begun : Type 0 where
+  pub number : ℕ
+  pub line : ℕ
+  pub plan : Plan
+  pub state : State
+
 -- what a start answers, and the lent areas and the permission table afterwards
 pub record Beginning : Type 0 where
   pub number : ℕ
@@ -94,6 +103,11 @@ accepted plan state = record { number = 0; line = 0; plan = plan; state = state 
 
 abbrev pub refused : ℕ → ℕ → Begun
 refused number line = record { number = number; line = line; plan = no_plan; state = no_state }
+
+-- the same, of what the code answers
+abbrev pub begun_of : Result Accepted Refused → Begun
+begun_of (Ok b) = accepted b.plan b.state
+begun_of (Err r) = refused (number_of r.refusal) r.line
 
 -- "Start fills the arena ..; the table area likewise .. Bytes behind stay. Active partitions' screens .. become spaces"
 unfoldable pub filled : Plan → State → List (List ℕ) → List ℕ → List ℕ → List ℕ → List ℕ → Beginning

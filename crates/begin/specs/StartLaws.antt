@@ -38,15 +38,15 @@ module _ (s : Setup) (files passwords : List Span) (store : List ℕ) (arena tab
   second true b e = cc
   second false b e = e
 
-  pub arena-room : (n : ℕ) → n ≡ late_of s files passwords store arena tables screens → n ≡ 0 → start_of s files 32 ≤ arena
+  pub arena-room : 0 ≡ late_of s files passwords store arena tables screens → start_of s files 32 ≤ arena
   unfolding no_room
-  arena-room n e z = ltb-false arena (start_of s files 32) (first (ltb arena (start_of s files 32)) _ (room (sym e ∙ z)))
+  arena-room e = ltb-false arena (start_of s files 32) (first (ltb arena (start_of s files 32)) _ (room (sym e)))
 
-  pub tables-room : (n : ℕ) → n ≡ late_of s files passwords store arena tables screens → n ≡ 0 → table_start passwords 8 ≤ tables
+  pub tables-room : 0 ≡ late_of s files passwords store arena tables screens → table_start passwords 8 ≤ tables
   unfolding no_room
-  tables-room n e z =
+  tables-room e =
       ltb-false tables (table_start passwords 8)
-      (first (ltb tables (table_start passwords 8)) _ (second (ltb arena (start_of s files 32)) _ (room (sym e ∙ z))))
+      (first (ltb tables (table_start passwords 8)) _ (second (ltb arena (start_of s files 32)) _ (room (sym e))))
 
 -- what is left of a start where nothing of the text was refused: 415, 416, and what is written
 unfoldable pub set_up : Setup → Bool → List ℕ → List ℕ → List ℕ → List ℕ → List ℕ → List (List ℕ) → Beginning

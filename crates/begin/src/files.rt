@@ -3,8 +3,16 @@ ghost use Rattle.std.specs.Prelude.{◌≡◌, ◌<◌};
 ghost use Rattle.image.specs.Image.{spot};
 ghost use Rattle.begin.specs.Files.{span_of, dseg_file, password_file, dseg_files, password_files};
 
-use octets::parts;
-use setup::{Setup, Span};
+use octets::span::Span;
+use setup::Setup;
+use std::array;
+
+// The files that start needs, by their places in the store.
+#[derive(Clone, Copy)]
+pub(crate) struct Files {
+    pub(crate) dsegs: [Span; 16],
+    pub(crate) passwords: [Span; 8],
+}
 
 // Where the file with a path stands; the empty span where there is none.
 #[tactic(auto, unfolding(crate::specs::Files::span_of))]
@@ -15,72 +23,56 @@ fn located(store: &[u8], path: &[u8]) -> Span
 }
 
 // Where the file of dseg i stands.
-fn dseg_file(setup: Setup, text: &[u8], store: &[u8], i: usize) -> Span
+#[tactic(auto, unfolding(crate::specs::Files::dseg_file, octets::specs::Spans::bytes_of), using(setup::specs::Values::get_or_any))]
+fn dseg_file(setup: &Setup, text: &[u8], store: &[u8], i: usize) -> Span
     requires { i < 16 }
-    ensures { result ≡ dseg_file setup text.now store.now i }
+    ensures { result ≡ dseg_file setup.now text.now store.now i }
 {
-    let dsegs = setup.dsegs;
     if i < setup.dsegcount {
-        let dseg = dsegs[i];
-        let path = dseg.path;
-        let place = path.place;
-        let length = path.length;
-        return located(store, parts::piece(text, place, length));
-    }
-    Span {
-        place: 0,
-        length: 0,
+        located(store, setup.dsegs[i].path.of(text))
+    } else {
+        Span::NONE
     }
 }
 
 // Where the files of all dsegs stand.
-pub(crate) fn dseg_files(setup: Setup, text: &[u8], store: &[u8]) -> [Span; 16]
-    ensures { result ≡ dseg_files setup text.now store.now }
+fn dseg_files(setup: &Setup, text: &[u8], store: &[u8]) -> [Span; 16]
+    ensures { result ≡ dseg_files setup.now text.now store.now }
 {
-    let none = Span {
-        place: 0,
-        length: 0,
-    };
-    let mut files = [none; 16];
-    let mut i = 0;
-    while i < 16 {
-        let file = dseg_file(setup, text, store, i);
-        files[i] = file;
-        i += 1;
-    }
-    files
+    array::from_fn(|i| dseg_file(setup, text, store, i))
 }
 
 // Where partition p's password file stands, if the partition is active.
-fn password_file(setup: Setup, store: &[u8], p: usize) -> Span
+#[tactic(auto, unfolding(crate::specs::Files::password_file, crate::specs::Files::password_path))]
+fn password_file(setup: &Setup, store: &[u8], p: usize) -> Span
     requires { p < 8 }
-    ensures { result ≡ password_file setup store.now p }
+    ensures { result ≡ password_file setup.now store.now p }
 {
     if setup.is_active(p) {
-        let digit = 48 + p as u8;
-        let path = [47, 115, 99, 111, 115, 47, 112, 119, digit];
-        return located(store, &path);
-    }
-    Span {
-        place: 0,
-        length: 0,
+        let digit = b'0' + p as u8;
+        let path = [b'/', b's', b'c', b'o', b's', b'/', b'p', b'w', digit];
+        located(store, &path)
+    } else {
+        Span::NONE
     }
 }
 
 // Where the password files of all active partitions stand.
-pub(crate) fn password_files(setup: Setup, store: &[u8]) -> [Span; 8]
-    ensures { result ≡ password_files setup store.now }
+fn password_files(setup: &Setup, store: &[u8]) -> [Span; 8]
+    ensures { result ≡ password_files setup.now store.now }
 {
-    let none = Span {
-        place: 0,
-        length: 0,
-    };
-    let mut files = [none; 8];
-    let mut p = 0;
-    while p < 8 {
-        let file = password_file(setup, store, p);
-        files[p] = file;
-        p += 1;
+    array::from_fn(|p| password_file(setup, store, p))
+}
+
+impl Files {
+    // All of them.
+    pub(crate) fn find(setup: &Setup, text: &[u8], store: &[u8]) -> Self
+        ensures dsegs { result.dsegs ≡ dseg_files setup.now text.now store.now }
+        ensures passwords { result.passwords ≡ password_files setup.now store.now }
+    {
+        Files {
+            dsegs: dseg_files(setup, text, store),
+            passwords: password_files(setup, store),
+        }
     }
-    files
 }

@@ -1,6 +1,8 @@
-// Start of a terminal (document 01, "Set-up text" and "Refusals at start"): the refusals in order, the plan, and what the lent areas are filled with.
+//! Start of a terminal: the refusals in order, the plan, and what the lent areas are filled with.
 #![tactic(auto)]
 
+use files::Files;
+pub use setup::Refused;
 use setup::Setup;
 use state::{Kept, Plan, State};
 
@@ -10,71 +12,60 @@ mod judging;
 mod planning;
 
 ghost use Rattle.std.specs.Prelude.{◌≡◌};
-ghost use Rattle.begin.specs.Start.{beginning, refused, start};
+ghost use Rattle.begin.specs.Start.{begun_of, beginning, start};
 ghost use Rattle.begin.specs.StartLaws.{set_up};
 
-// A refusal's number and line, with an empty plan and state; or 0 and 0, with the plan and the first state.
+/// What an accepted start fixes, and the state that it begins with.
 #[derive(Clone, Copy)]
 pub struct Begun {
-    pub number: u32,
-    pub line: usize,
     pub plan: Plan,
     pub state: State,
 }
 
-fn refused(number: u32, line: usize) -> Begun
-    ensures { result ≡ refused number line }
-{
-    let plan = Plan::new();
-    let state = State::new();
-    Begun {
-        number,
-        line,
-        plan,
-        state,
-    }
+// What a host lends for writing.
+#[derive(Drop)]
+struct Areas<'a> {
+    arena: &'a mut [u8],
+    tables: &'a mut [u8],
+    screens: &'a mut [u8],
+    permissions: &'a mut [[u8; 8]; 32],
 }
 
 // Starts a terminal as a set-up says, where no statement of its text was refused. Everything is judged before anything is written.
 fn set_up(
-    setup: Setup,
+    setup: &Setup,
     soft: bool,
     text: &[u8],
     store: &[u8],
-    arena: &mut [u8],
-    tables: &mut [u8],
-    screens: &mut [u8],
-    permissions: &mut [[u8; 8]; 32],
-) -> Begun
-    ensures { beginning result arena.new tables.new screens.new permissions.new ≡ set_up setup soft text.now store.now arena.old tables.old screens.old permissions.old }
+    areas: &mut Areas,
+) -> Result<Begun, Refused>
+    ensures outcome { beginning (begun_of result) areas.new.arena.now areas.new.tables.now areas.new.screens.now areas.new.permissions.now ≡ set_up setup.now soft text.now store.now areas.old.arena.now areas.old.tables.now areas.old.screens.now areas.old.permissions.now }
+    ensures same_arena { areas.new.arena.ghost_name ≡ areas.old.arena.ghost_name }
+    ensures same_tables { areas.new.tables.ghost_name ≡ areas.old.tables.ghost_name }
+    ensures same_screens { areas.new.screens.ghost_name ≡ areas.old.screens.ghost_name }
+    ensures same_permissions { areas.new.permissions.ghost_name ≡ areas.old.permissions.ghost_name }
 {
-    let files = files::dseg_files(setup, text, store);
-    let passwords = files::password_files(setup, store);
+    let files = Files::find(setup, text, store);
     let kept = Kept {
         store: store.len(),
-        arena: arena.len(),
-        tables: tables.len(),
-        screens: screens.len(),
+        arena: areas.arena.len(),
+        tables: areas.tables.len(),
+        screens: areas.screens.len(),
     };
-    let late = judging::late(setup, files, passwords, store, kept);
-    if late != 0 {
-        return refused(late, 0);
-    }
-    let plan = planning::plan_of(soft, setup, files, passwords, kept);
-    let state = planning::first_state(setup);
-    filling::fill_memory(plan, store, arena, tables);
-    filling::clear_screens(plan, screens);
-    let table = setup::permission_table(setup);
-    *permissions = table;
-    Begun {
-        number: 0,
-        line: 0,
+    judging::late(setup, &files, store, &kept)?;
+    let plan = planning::plan_of(soft, setup, &files, kept);
+    filling::fill_arena(&plan, store, areas.arena);
+    filling::fill_tables(&plan, store, areas.tables);
+    filling::clear_screens(&plan, areas.screens);
+    *areas.permissions = setup::permission_table(*setup);
+    Ok(Begun {
         plan,
-        state,
-    }
+        state: planning::first_state(setup),
+    })
 }
 
-// Starts a terminal of `count` partitions, of which those with a flag are active, as the text says.
+/// Starts a terminal of `count` partitions, of which those with a flag are active, as the text says. A refused start leaves what was lent as
+/// it was.
 pub fn start(
     count: u32,
     active: [bool; 8],
@@ -85,26 +76,16 @@ pub fn start(
     tables: &mut [u8],
     screens: &mut [u8],
     permissions: &mut [[u8; 8]; 32],
-) -> Begun
-    ensures { beginning result arena.new tables.new screens.new permissions.new ≡ start count active soft text.now store.now arena.old tables.old screens.old permissions.old }
+) -> Result<Begun, Refused>
+    ensures { beginning (begun_of result) arena.new tables.new screens.new permissions.new ≡ start count active soft text.now store.now arena.old tables.old screens.old permissions.old }
 {
-    let early = judging::early(count, active, text, store);
-    if early != 0 {
-        return refused(early, 0);
-    }
-    let outcome = setup::read(true, store, text, count, active);
-    if outcome.number != 0 {
-        return refused(outcome.number, outcome.line);
-    }
-    let setup = outcome.setup;
-    set_up(
-        setup,
-        soft,
-        text,
-        store,
+    judging::early(count, active, text, store)?;
+    let setup = setup::read(true, store, text, count, active)?;
+    let mut areas = Areas {
         arena,
         tables,
         screens,
         permissions,
-    )
+    };
+    set_up(&setup, soft, text, store, &mut areas)
 }

@@ -1,211 +1,149 @@
 // What start fixes: the places of segments and password tables, and the partition that has the focus.
-ghost use Rattle.std.specs.Prelude.{cond, ◌≡◌, ◌<◌, ◌≤◌};
-ghost use Rattle.state.specs.Empty.{no_segment};
+ghost use Rattle.std.specs.Prelude.{◌≡◌, ◌<◌, ◌≤◌, ◌^◌};
+ghost use Rattle.octets.specs.Spans.{span};
 ghost use Rattle.begin.specs.Each.{firsts};
 ghost use Rattle.begin.specs.Planned.{path_of, size_of, start_of, segment_of, table_start, seat_of, planned, lowest, first_state};
 
-use octets::parts;
-use setup::{Setup, Span};
+use crate::files::Files;
+use octets::span::Span;
+use setup::Setup;
 use state::{Kept, Plan, Seat, Segment, State};
 
 // The path of a file, n bytes, stands right before its contents.
+#[tactic(auto, unfolding(crate::specs::Planned::path_of))]
 fn path_of(file: Span, n: usize) -> Span
     ensures { result ≡ path_of file n }
 {
-    let back = parts::least(n, file.place);
     Span {
-        place: file.place - back,
+        place: file.place.saturating_sub(n),
         length: n,
     }
 }
 
 // The bytes that a segment takes: a dseg's file's size, or an mseg's own.
-pub(crate) fn size_of(setup: Setup, files: [Span; 16], row: usize) -> usize
+#[tactic(auto, unfolding(crate::specs::Planned::size_of), using(setup::specs::Values::get_or_any))]
+pub(crate) fn size_of(setup: &Setup, files: &[Span; 16], row: usize) -> usize
     requires { row < 32 }
-    ensures { result ≡ size_of setup files row }
+    ensures { result ≡ size_of setup.now files.now row }
 {
-    let msegs = setup.msegs;
     if row < 16 {
-        let file = files[row];
-        return file.length;
+        return files[row].length;
     }
     let i = row - 16;
     if i < setup.msegcount {
-        let mseg = msegs[i];
-        return mseg.size as usize;
+        return setup.msegs[i].size as usize;
     }
     0
 }
 
-// A segment that is declared; zeros where none is.
-fn declared(is: bool, memory: Span, file: Span, path: Span) -> Segment
-    ensures { result ≡ cond is (record { memory = memory; file = file; path = path }) no_segment }
-{
-    if is {
-        return Segment { memory, file, path };
-    }
-    let none = Span {
-        place: 0,
-        length: 0,
-    };
-    Segment {
-        memory: none,
-        file: none,
-        path: none,
-    }
-}
-
-// The segment of a row, of `size` bytes from place `at` of the arena on.
-fn segment_of(setup: Setup, files: [Span; 16], row: usize, at: usize, size: usize) -> Segment
+// The segment of a row, whose part of the arena is given; zeros where none is declared.
+#[tactic(auto, unfolding(crate::specs::Planned::segment_of, crate::specs::Planned::dseg_of, crate::specs::Planned::mseg_of), using(setup::specs::Values::get_or_any))]
+fn segment_of(setup: &Setup, files: &[Span; 16], row: usize, memory: Span) -> Segment
     requires row_bound { row < 32 }
-    requires at_value { at ≡ start_of setup files row }
-    requires size_value { size ≡ size_of setup files row }
-    ensures { result ≡ segment_of setup files row }
+    requires memory_value { memory ≡ span (start_of setup.now files.now row) (size_of setup.now files.now row) }
+    ensures { result ≡ segment_of setup.now files.now row }
 {
-    let memory = Span {
-        place: at,
-        length: size,
-    };
-    let dsegs = setup.dsegs;
     if row < 16 {
-        let file = files[row];
-        let dseg = dsegs[row];
-        let title = dseg.path;
-        let path = path_of(file, title.length);
-        return declared(row < setup.dsegcount, memory, file, path);
+        if row < setup.dsegcount {
+            let file = files[row];
+            let path = path_of(file, setup.dsegs[row].path.length);
+            return Segment { memory, file, path };
+        }
+    } else if row - 16 < setup.msegcount {
+        return Segment {
+            memory,
+            file: Span::NONE,
+            path: Span::NONE,
+        };
     }
-    let none = Span {
-        place: 0,
-        length: 0,
-    };
-    declared(row - 16 < setup.msegcount, memory, none, none)
+    Segment::NONE
 }
 
-// All segments, one behind the other. The arena, of `limit` bytes, has room for them.
-fn segments_of(setup: Setup, files: [Span; 16], limit: usize) -> [Segment; 32]
-    requires { start_of setup files 32 ≤ limit }
-    ensures { result ≡ firsts (segment_of setup files) 32 }
+// All segments, one behind the other, where no place among them wraps.
+#[tactic(auto, unfolding(crate::specs::Planned::start_of, crate::specs::Each::firsts, crate::specs::Each::total), using(crate::proofs::Made::in_order))]
+fn segments_of(setup: &Setup, files: &[Span; 16]) -> [Segment; 32]
+    requires { start_of setup.now files.now 32 < 2 ^ 64 }
+    ensures { result ≡ firsts (segment_of setup.now files.now) 32 }
 {
-    let none = Span {
-        place: 0,
-        length: 0,
-    };
-    let empty = Segment {
-        memory: none,
-        file: none,
-        path: none,
-    };
-    let mut segments = [empty; 32];
+    let mut segments = [Segment::NONE; 32];
     let mut at = 0;
-    let mut row = 0;
-    while row < 32 {
-        let size = size_of(setup, files, row);
-        let segment = segment_of(setup, files, row, at, size);
-        segments[row] = segment;
-        at = parts::sum(at, size, limit);
-        row += 1;
+    for row in 0..32 {
+        let memory = Span {
+            place: at,
+            length: size_of(setup, files, row),
+        };
+        segments[row] = segment_of(setup, files, row, memory);
+        at += memory.length;
     }
     segments
 }
 
 // The seat of partition p, whose table begins at place `at` of the table area; zeros where the partition is passive.
-fn seat_of(setup: Setup, files: [Span; 8], p: usize, at: usize) -> Seat
+#[tactic(auto, unfolding(crate::specs::Planned::seat_of))]
+fn seat_of(setup: &Setup, files: &[Span; 8], p: usize, at: usize) -> Seat
     requires p_bound { p < 8 }
-    requires at_value { at ≡ table_start files p }
-    ensures { result ≡ seat_of setup files p }
+    requires at_value { at ≡ table_start files.now p }
+    ensures { result ≡ seat_of setup.now files.now p }
 {
-    if setup.is_active(p) {
-        let file = files[p];
-        let table = Span {
-            place: at,
-            length: file.length,
-        };
-        return Seat {
-            active: true,
-            table,
-            file,
-        };
+    if !setup.is_active(p) {
+        return Seat::NONE;
     }
-    let none = Span {
-        place: 0,
-        length: 0,
+    let file = files[p];
+    let table = Span {
+        place: at,
+        length: file.length,
     };
     Seat {
-        active: false,
-        table: none,
-        file: none,
+        active: true,
+        table,
+        file,
     }
 }
 
-// All seats. The table area, of `limit` bytes, has room for their tables.
-fn seats_of(setup: Setup, files: [Span; 8], limit: usize) -> [Seat; 8]
-    requires { table_start files 8 ≤ limit }
-    ensures { result ≡ firsts (seat_of setup files) 8 }
+// All seats, their tables one behind the other, where no place among them wraps.
+#[tactic(auto, unfolding(crate::specs::Planned::table_start, crate::specs::Each::firsts, crate::specs::Each::total), using(crate::proofs::Made::in_order))]
+fn seats_of(setup: &Setup, files: &[Span; 8]) -> [Seat; 8]
+    requires { table_start files.now 8 < 2 ^ 64 }
+    ensures { result ≡ firsts (seat_of setup.now files.now) 8 }
 {
-    let none = Span {
-        place: 0,
-        length: 0,
-    };
-    let empty = Seat {
-        active: false,
-        table: none,
-        file: none,
-    };
-    let mut seats = [empty; 8];
+    let mut seats = [Seat::NONE; 8];
     let mut at = 0;
-    let mut p = 0;
-    while p < 8 {
-        let file = files[p];
-        let seat = seat_of(setup, files, p, at);
-        seats[p] = seat;
-        at = parts::sum(at, file.length, limit);
-        p += 1;
+    for (p, file) in files.iter().enumerate() {
+        seats[p] = seat_of(setup, files, p, at);
+        at += file.length;
     }
     seats
 }
 
 // The plan, of areas that have room for it.
-pub(crate) fn plan_of(
-    soft: bool,
-    setup: Setup,
-    files: [Span; 16],
-    passwords: [Span; 8],
-    kept: Kept,
-) -> Plan
-    requires files_bound { start_of setup files 32 ≤ kept.arena }
-    requires passwords_bound { table_start passwords 8 ≤ kept.tables }
-    ensures { result ≡ planned soft setup files passwords kept }
+#[tactic(auto, unfolding(crate::specs::Planned::planned))]
+pub(crate) fn plan_of(soft: bool, setup: &Setup, files: &Files, kept: Kept) -> Plan
+    requires files_bound { start_of setup.now files.now.dsegs 32 ≤ kept.arena }
+    requires passwords_bound { table_start files.now.passwords 8 ≤ kept.tables }
+    ensures { result ≡ planned soft setup.now files.now.dsegs files.now.passwords kept }
 {
-    let seats = seats_of(setup, passwords, kept.tables);
-    let segments = segments_of(setup, files, kept.arena);
     Plan {
         count: setup.partitions,
         soft,
         dsegs: setup.dsegcount,
         msegs: setup.msegcount,
-        seats,
-        segments,
+        seats: seats_of(setup, &files.passwords),
+        segments: segments_of(setup, &files.dsegs),
         kept,
     }
 }
 
 // The lowest active partition.
-fn lowest(setup: Setup) -> usize
-    ensures { result ≡ lowest 8 setup 0 }
+fn lowest(setup: &Setup) -> usize
+    ensures { result ≡ lowest 8 setup.now 0 }
 {
-    let mut p = 0;
-    while p < 8 {
-        if setup.is_active(p) {
-            return p;
-        }
-        p += 1;
-    }
-    0
+    (0..8).find(|&p| setup.is_active(p)).unwrap_or(0)
 }
 
 // The state at start.
-pub(crate) fn first_state(setup: Setup) -> State
-    ensures { result ≡ first_state setup }
+#[tactic(auto, unfolding(crate::specs::Planned::first_state, state::specs::Parts::with_focus, state::specs::Empty::no_state))]
+pub(crate) fn first_state(setup: &Setup) -> State
+    ensures { result ≡ first_state setup.now }
 {
     State::new().with_focus(lowest(setup))
 }

@@ -1,6 +1,7 @@
 -- Refusals in order.
 pub mod Checks
 pub mod Refusals
+pub mod Numbers
 pub mod Laws
 pub mod Settle
 pub mod Told

@@ -3,7 +3,7 @@ use Rattle.std.specs.Prelude.{Bool, List, ◌≡◌, refl, ℕ, Result, Ok, Err}
 use Rattle.std.proofs.Common.{ap, ap₂, sym, ◌∙◌}
 use Rattle.checks.specs.Refusals.{answer}
 use Rattle.checks.specs.declared.refusal.Refusal.{Refusal}
-use Rattle.begin.specs.Numbers.{number-same, number-not_zero}
+use Rattle.checks.specs.Numbers.{number-same, number-not_zero}
 use Rattle.setup.specs.declared.Refused.{Refused}
 use Rattle.setup.specs.Views.{outcome_of}
 use Rattle.setup.specs.Outcomes.{Outcome}
@@ -11,7 +11,7 @@ use Rattle.setup.specs.declared.Setup.{Setup}
 use Rattle.setup.specs.Setup.{is_active, has_code}
 use Rattle.setup.specs.Reading.{permission_table, read as Reading·read}
 use Rattle.setup.specs.Rules.{limits as Rules·limits}
-use Rattle.determined.specs.Determined.{AtMostOne, plain}
+use Rattle.determined.specs.Determined.{AtMostOne, plain, by_answer}
 
 pub is-active : (self : Setup) (p : ℕ) → AtMostOne (λ (x : Bool). x ≡ is_active self p)
 is-active self p = plain _
@@ -22,15 +22,8 @@ has_code_lem self p = plain _
 pub permission-table : (setup : Setup) → AtMostOne (λ (x : List (List ℕ)). x ≡ permission_table setup)
 permission-table setup = plain _
 
--- a number is that of one refusal, or of none
-one_answer : (x y : Result (Unit {0}) Refusal) → answer x ≡ answer y → x ≡ y
-one_answer (Ok u) (Ok v) e = refl
-one_answer (Ok u) (Err r) e = absurd (number-not_zero r (sym e))
-one_answer (Err r) (Ok v) e = absurd (number-not_zero r e)
-one_answer (Err r) (Err s) e = ap (λ (n : Refusal). Err n) (number-same r s e)
-
 pub limits : (count : ℕ) (active : List Bool) (bytes : ℕ) → AtMostOne (λ (x : Result (Unit {0}) Refusal). answer x ≡ Rules·limits count active bytes)
-limits count active bytes x y p q = one_answer x y (p ∙ sym q)
+limits count active bytes = by_answer _
 
 -- and so an outcome is that of one result
 one_outcome : (x y : Result Setup Refused) → outcome_of x ≡ outcome_of y → x ≡ y

@@ -19,7 +19,8 @@ use Rattle.setup.specs.declared.Setup.{Setup}
 use Rattle.checks.specs.Refusals.{number_of}
 use Rattle.checks.specs.declared.refusal.Refusal.{Refusal}
 use Rattle.setup.specs.declared.Refused.{Refused}
-use Rattle.setup.specs.Views.{outcome_of, some_number}
+use Rattle.checks.specs.Numbers.{some_number}
+use Rattle.setup.specs.Views.{outcome_of}
 use Rattle.lister.specs.declared.lines_of.Kind.{Kind}
 use Rattle.lister.specs.declared.lines_of.Kind.TheVariants.{Dsegs, Msegs}
 use Rattle.lister.specs.Kinds.{letter, what, row_lines}

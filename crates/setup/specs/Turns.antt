@@ -12,7 +12,7 @@ use Rattle.statements.specs.Kinds.{statement_of_kind}
 use Rattle.statements.specs.declared.Kind.{Kind}
 use Rattle.setup.specs.declared.Setup.{Setup}
 use Rattle.setup.specs.Outcomes.{Judged}
-use Rattle.setup.specs.Views.{some_number}
+use Rattle.checks.specs.Numbers.{some_number}
 use Rattle.setup.specs.Rules.{dseg_checks, mseg_checks}
 use Rattle.setup.specs.Reading.{settled, refused_at, judged, judged_at, refusal, ended, read_from}
 

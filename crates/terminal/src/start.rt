@@ -3,9 +3,10 @@ ghost use Rattle.std.specs.Prelude.{◌≡◌};
 ghost use Rattle.terminal.specs.Start.{start, start_of};
 
 use super::{Started, Terminal};
+use begin::Begun;
 
 impl Terminal {
-    // Starts the terminal, or starts it anew. A refused start changes nothing and hands back the terminal given.
+    /// Starts the terminal, or starts it anew. A refused start changes nothing and hands back the terminal given.
     pub fn start(
         self,
         count: u32,
@@ -20,7 +21,7 @@ impl Terminal {
     ) -> Started
         ensures { start_of result arena.new tables.new screens.new permissions.new ≡ start self count active soft text.now store.now arena.old tables.old screens.old permissions.old }
     {
-        let begun = begin::start(
+        match begin::start(
             count,
             active,
             soft,
@@ -30,21 +31,17 @@ impl Terminal {
             tables,
             screens,
             permissions,
-        );
-        if begun.number != 0 {
-            return Started {
-                number: begun.number,
-                line: begun.line,
+        ) {
+            Ok(Begun { plan, state }) => Started {
+                number: 0,
+                line: 0,
+                terminal: Terminal { plan, state },
+            },
+            Err(refused) => Started {
+                number: refused.refusal.number(),
+                line: refused.line,
                 terminal: self,
-            };
-        }
-        let plan = begun.plan;
-        let state = begun.state;
-        let next = Terminal { plan, state };
-        Started {
-            number: begun.number,
-            line: begun.line,
-            terminal: next,
+            },
         }
     }
 }

@@ -3,7 +3,8 @@ use Rattle.std.proofs.lemmas.Result.{err_from_is_err_and}
 use Rattle.std.proofs.lemmas.Bool.{eqb-false}
 use Rattle.checks.specs.Refusals.{number_of}
 use Rattle.setup.specs.Turns.{turn_out, turn-ended, turn-refused, turn_more}
-use Rattle.setup.specs.Views.{outcome_of, judged_of, rank_of, some_number}
+use Rattle.checks.specs.Numbers.{some_number}
+use Rattle.setup.specs.Views.{outcome_of, judged_of, rank_of}
 use Rattle.setup.specs.Reading.{read, read_from}
 use Rattle.setup.proofs.read.Goals as goal
 

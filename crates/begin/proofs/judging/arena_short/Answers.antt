@@ -1,24 +1,13 @@
-use Rattle.std.proofs.Common.{le-ltb, ◌≡◌, sym, ◌∙◌, arith}
-use Rattle.begin.specs.Each.{total}
-use Rattle.begin.specs.JudgeLaws.{short-step, place-step}
+-- `begin::judging::arena_short` meets its contract: the sizes are those of all rows. Assumes nothing.
+use Rattle.std.proofs.Common.{◌≡◌, rules}
+use Rattle.begin.specs.Each.{firsts}
+use Rattle.begin.specs.EachLaws.{sum-firsts}
 use Rattle.begin.specs.Planned.{size_of, start_of}
+use Rattle.begin.proofs.Made.{made}
 use Rattle.begin.proofs.judging.arena_short.Goals as goal
 
-pub loop-row-init : goal.loop-row-init
-unfolding start_of total
-loop-row-init c = (sym (le-ltb c.args.limit 0 (omega arith)), (omega arith, omega arith))
-
-pub loop-row-preserved : goal.loop-row-preserved
-unfolding start_of
-loop-row-preserved c = let args = c.args in
-    let loop = c.loop-row in
-    let size = c.size_of-size in
-    let sizes = size_of args.setup args.files in
-    let place = loop.invariant.1.0 in (
-      short-step sizes loop.row args.limit loop.at size.result loop.short loop.invariant.0 place size.ensures,
-      (c.sum-at.ensures ∙ place-step sizes loop.row args.limit loop.at size.result loop.short loop.invariant.0 place size.ensures, omega arith),
-    )
-
 pub returns : goal.returns
-returns c = let all : c.loop-row.row ≡ 32 = omega arith in
-    rw all at c.loop-row.invariant.0
+unfolding start_of
+returns c = let size = size_of c.args.setup.now c.args.files.now in
+    let sizes : c.from_fn-sizes.result ≡ firsts size 32 = made _ _ size _ (λ i r q k. search rules) 32 c.from_fn-sizes.ensures.items in
+    rw (c.exceed.ensures, sizes, sum-firsts size 32)

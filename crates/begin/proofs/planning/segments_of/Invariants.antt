@@ -1,12 +1,13 @@
--- `begin::planning::segments_of` meets its contract. The loop's invariant: the rows so far are planned, and `at` is where the next begins. The measure
--- is how many are left. Assumes nothing.
-use Rattle.std.proofs.Common.{◌≡◌, ◌≤◌, ◌-◌, length, take}
+-- `begin::planning::segments_of` meets its contract. The loop's invariant: the rows so far are planned, and `at` is where the next begins. Assumes nothing.
+use Rattle.std.proofs.Common.{◌≡◌, length, take}
 use Rattle.begin.specs.Each.{firsts}
 use Rattle.begin.specs.Planned.{start_of, segment_of}
 use Rattle.begin.proofs.planning.segments_of.Given as goal
 
 abbrev pub invariant-loop-row : goal.invariant-loop-row
-invariant-loop-row l = (take l.row l.segments ≡ firsts (segment_of l.setup l.files) l.row) × ((length l.segments ≡ 32) × ((l.row ≤ 32) × (l.at ≡ start_of l.setup l.files l.row)))
-
-abbrev pub decreases-loop-row : goal.decreases-loop-row
-decreases-loop-row l = 32 - l.row
+invariant-loop-row l =
+    record {
+      planned : take l.row l.segments ≡ firsts (segment_of l.setup l.files) l.row;
+      rows : length l.segments ≡ 32;
+      next : l.at ≡ start_of l.setup l.files l.row;
+    }

@@ -1,12 +1,12 @@
-use Rattle.std.proofs.Common.{eq-eqb, ne_eqb}
 use Rattle.checks.specs.Settle.{settle}
+use Rattle.checks.specs.Numbers.{some_number}
 use Rattle.terminal.specs.Start.{start, begun_from}
 use Rattle.terminal.proofs.Terminal.start.Goals as goal
 
-pub returns-then-begun-ne0 : goal.returns-then-begun-ne0
+pub returns-in-Ok : goal.returns-in-Ok
 unfolding start begun_from settle
-returns-then-begun-ne0 c = rw (← c.start-begun.ensures, ne_eqb _ _ c.if-begun-ne0.true)
+returns-in-Ok c = rw (← c.in-Ok.ensures)
 
-pub returns : goal.returns
+pub returns-in-Err : goal.returns-in-Err
 unfolding start begun_from settle
-returns c = rw (← c.start-begun.ensures, eq-eqb _ _ c.if-begun-ne0.false)
+returns-in-Err c = rw (← c.in-Err.ensures, c.number.ensures, some_number c.in-Err.refused.refusal)
