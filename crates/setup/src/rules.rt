@@ -13,6 +13,7 @@ use super::{Setup, Span};
 use checks::Refusal;
 use octets::{parts, search};
 use statements::{Grants, Permissions};
+use std::array;
 
 // How many segments of a kind there may be.
 const SEGMENTS: usize = 16;
@@ -93,16 +94,7 @@ fn permission_of(permissions: Permissions, p: usize) -> u8
 pub fn permission_row(permissions: Permissions) -> [u8; 8]
     ensures { result ≡ permission_row permissions.count permissions.bits }
 {
-    [
-        permission_of(permissions, 0),
-        permission_of(permissions, 1),
-        permission_of(permissions, 2),
-        permission_of(permissions, 3),
-        permission_of(permissions, 4),
-        permission_of(permissions, 5),
-        permission_of(permissions, 6),
-        permission_of(permissions, 7),
-    ]
+    array::from_fn(|p| permission_of(permissions, p))
 }
 
 // Some active partition has RW.

@@ -46,7 +46,7 @@ impl Permission {
 }
 
 /// How many permissions a statement gives, and the last eight of them, two bits for each, the last one lowest.
-// Stays a number: what is accepted has at most eight, and a row of enums would be longer than its check ("Forms that stay").
+// Stays a number: a row of eight permissions that is moved on for each one more says no more.
 #[derive(Clone, Copy, Debug, PartialEq, Eq)]
 pub struct Permissions {
     pub count: usize,

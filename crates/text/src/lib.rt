@@ -7,6 +7,7 @@ mod runs;
 pub mod tokens;
 
 /// Which bytes a run is made of.
+// Stays an enum: a test that is lent as a closure takes a contract over all tests, and says no more than these three names.
 #[derive(Clone, Copy, Debug, PartialEq, Eq)]
 enum Class {
     Digit,
