@@ -35,8 +35,8 @@ pub struct Reading<'a> {
 
 impl<'a> Reading<'a> {
     ghost use Rattle.statements.specs.Statements.{statement_at, code_at, dseg_at, mseg_at};
-    ghost use Rattle.setup.specs.Reading.{refused_at, judged};
-    ghost use Rattle.setup.specs.Views.{rank_of, refused_of, judged_of};
+    ghost use Rattle.setup.specs.Reading.{refused_at};
+    ghost use Rattle.setup.specs.Views.{refused_of, judged_of, judged_by};
 
     // A refusal, with the line of the statement's first token, which stands at `place`.
     fn refused(self, refusal: Refusal, place: usize) -> Refused
@@ -50,7 +50,7 @@ impl<'a> Reading<'a> {
 
     // A CODE statement, read from behind its word on.
     fn code(self, place: usize, behind: usize, before: &Progress) -> Result<Progress, Refused>
-        ensures { judged_of result ≡ judged self.entry.look self.entry.image.now self.entry.text.now place (rank_of before.now.rank) before.now.setup (code_at self.entry.text.now behind) }
+        ensures { judged_of result ≡ judged_by self.entry place before.now (code_at self.entry.text.now behind) }
     {
         let Statement::Code {
             partition,
@@ -73,7 +73,7 @@ impl<'a> Reading<'a> {
 
     // A DSEG statement, read from behind its word on.
     fn dseg(self, place: usize, behind: usize, before: &Progress) -> Result<Progress, Refused>
-        ensures { judged_of result ≡ judged self.entry.look self.entry.image.now self.entry.text.now place (rank_of before.now.rank) before.now.setup (dseg_at self.entry.text.now behind) }
+        ensures { judged_of result ≡ judged_by self.entry place before.now (dseg_at self.entry.text.now behind) }
     {
         let Statement::Dseg {
             index,
@@ -97,7 +97,7 @@ impl<'a> Reading<'a> {
 
     // An MSEG statement, read from behind its word on.
     fn mseg(self, place: usize, behind: usize, before: &Progress) -> Result<Progress, Refused>
-        ensures { judged_of result ≡ judged self.entry.look self.entry.image.now self.entry.text.now place (rank_of before.now.rank) before.now.setup (mseg_at self.entry.text.now behind) }
+        ensures { judged_of result ≡ judged_by self.entry place before.now (mseg_at self.entry.text.now behind) }
     {
         let Statement::Mseg {
             index,
@@ -121,7 +121,7 @@ impl<'a> Reading<'a> {
 
     // The next statement, whose first token stands at `place`.
     pub fn judge(self, place: usize, before: &Progress) -> Result<Progress, Refused>
-        ensures { judged_of result ≡ judged self.entry.look self.entry.image.now self.entry.text.now place (rank_of before.now.rank) before.now.setup (statement_at self.entry.text.now before.now.next) }
+        ensures { judged_of result ≡ judged_by self.entry place before.now (statement_at self.entry.text.now before.now.next) }
     {
         match statements::kind_at(self.text, before.next) {
             Kind::Code(behind) => self.code(place, behind, before),
