@@ -8,16 +8,17 @@ ghost use Rattle.octets.specs.Lists.{over, write_at};
 ghost use Rattle.checks.specs.Checks.{◌when◌, after};
 ghost use Rattle.checks.specs.Refusals.{answer};
 ghost use Rattle.checks.specs.Told.{told};
-ghost use Rattle.memory.specs.Rights.{number_of};
+ghost use Rattle.statements.specs.Statements.{number_of};
 ghost use Rattle.database.specs.Database.{kind_of, selector_of, header, database};
 ghost use Rattle.database.specs.Database.{entry as Database·entry};
 ghost use Rattle.database.specs.Database.{configuration as Database·configuration};
 ghost use Rattle.database.specs.Row.{spelled_all, entry_in, Laid, Rows};
 
 use checks::{Refusal, number_behind};
-use memory::{Permission, rights};
+use memory::rights;
 use octets::{numbers, parts};
 use state::{Plan, Segment};
+use statements::Permission;
 
 // How many bytes the database takes: a header, and an entry for each row of the permission table.
 const SIZE: usize = 2584;

@@ -2,11 +2,12 @@
 use Rattle.std.specs.Prelude.{Bool, cond, List, ◌≡◌, refl, ℕ, eqb}
 use Rattle.state.specs.declared.Plan.{Plan}
 use Rattle.memory.specs.declared.Reach.{Reach}
-use Rattle.memory.specs.declared.rights.Permission.{Permission}
-use Rattle.memory.specs.declared.rights.Permission.TheVariants.{NoAccess, ReadOnly, ReadWrite}
+use Rattle.statements.specs.declared.Permission.{Permission}
+use Rattle.statements.specs.declared.Permission.TheVariants.{NoAccess, ReadOnly, ReadWrite}
 use Rattle.checks.specs.Told.{told}
 use Rattle.memory.specs.Memory.{load as Memory·load, store as Memory·store, flush as Memory·flush}
-use Rattle.memory.specs.Rights.{number_of, right_of, reach as Rights·reach}
+use Rattle.statements.specs.Statements.{number_of}
+use Rattle.memory.specs.Rights.{right_of, reach as Rights·reach}
 use Rattle.determined.specs.Determined.{AtMostOne, plain, by_reading, by_told}
 
 pub load : (n : ℕ) (reach : Reach) (offset : ℕ) (arena buffer : List ℕ)
@@ -33,12 +34,6 @@ read_back ReadWrite = refl
 
 pub right : (plan : Plan) (permissions : List (List ℕ)) (row partition : ℕ) → AtMostOne (λ (x : Permission). number_of x ≡ right_of plan permissions row partition)
 right plan permissions row partition = by_reading number_of of_number read_back _
-
-pub number : (permission : Permission) → AtMostOne (λ (x : ℕ). x ≡ number_of permission)
-number permission = plain _
-
-pub is_none : (permission : Permission) → AtMostOne (λ (x : Bool). x ≡ eqb (number_of permission) 0)
-is_none permission = plain _
 
 pub reach : (plan : Plan) (permissions : List (List ℕ)) (partition selector : ℕ)
     → AtMostOne (λ (x : Reach). x ≡ Rights·reach plan permissions partition selector)

@@ -3,8 +3,6 @@ use Rattle.std.specs.Prelude.{Bool, cond, ◌&&◌, List, ℕ, ◌+◌, ◌-◌,
 use Rattle.state.specs.declared.Plan.{Plan}
 use Rattle.state.specs.Parts.{segment_at}
 use Rattle.memory.specs.declared.Reach.{Reach}
-use Rattle.memory.specs.declared.rights.Permission.{Permission}
-use Rattle.memory.specs.declared.rights.Permission.TheVariants.{NoAccess, ReadOnly, ReadWrite}
 
 -- "Selectors: 256 + index for a dseg, 512 + index for an mseg": the segment's row, 0 to 15 for a dseg and 16 to 31 for an mseg, as in the
 -- permission table; 32 where it names none
@@ -33,9 +31,3 @@ reach plan permissions p selector =
       mapped = ltb (row_of selector) 16;
       segment = segment_at plan (row_of selector);
     }
-
--- the number of each right
-abbrev pub number_of : Permission → ℕ
-number_of NoAccess = 0
-number_of ReadOnly = 1
-number_of ReadWrite = 2

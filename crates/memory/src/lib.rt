@@ -16,10 +16,9 @@ ghost use Rattle.memory.specs.Memory.{flush as Memory·flush};
 use checks::{Refusal, number_behind};
 use octets::parts;
 use state::Segment;
+use statements::Permission;
 
 pub mod rights;
-
-pub use rights::Permission;
 
 /// What a selector gives a partition: the number of its right (0 NA, 1 RO, 2 RW), whether a file is mapped there (a
 /// dseg), and the segment.

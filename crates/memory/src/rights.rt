@@ -1,11 +1,13 @@
 //! Which right a partition has to a segment: selectors and permissions.
-ghost use Rattle.std.specs.Prelude.{◌≡◌, not, eqb, get_or, replicate};
-ghost use Rattle.memory.specs.Rights.{number_of, row_of, right_of};
+ghost use Rattle.std.specs.Prelude.{◌≡◌, get_or, replicate};
+ghost use Rattle.statements.specs.Statements.{number_of};
+ghost use Rattle.memory.specs.Rights.{row_of, right_of};
 ghost use Rattle.memory.specs.Rights.{declared as Rights·declared};
 ghost use Rattle.memory.specs.Rights.{permission as Rights·permission};
 ghost use Rattle.memory.specs.Rights.{reach as Rights·reach};
 
 use super::Reach;
+use statements::Permission;
 use state::Plan;
 
 // The rows of the permission table: dseg i is row i, mseg i is row 16 + i.
@@ -13,46 +15,15 @@ const ROWS: usize = 32;
 
 const DSEGS: usize = 16;
 
-/// What a partition may do to a segment.
-#[derive(Clone, Copy, Debug, PartialEq, Eq)]
-pub enum Permission {
-    /// NA: the segment is not in the partition's list.
-    NoAccess,
-    /// RO: load.
-    ReadOnly,
-    /// RW: load, store and flush.
-    ReadWrite,
-}
-
-impl Permission {
-    /// Its number in a permission table and in the configuration database: 0 NA, 1 RO, 2 RW.
-    pub fn number(self) -> u8
-        ensures { result ≡ number_of self }
-    {
-        match self {
-            Permission::NoAccess => 0,
-            Permission::ReadOnly => 1,
-            Permission::ReadWrite => 2,
-        }
-    }
-
-    // The right of a number. Any number but RO and RW counts as NA.
-    #[tactic(auto, unfolding(crate::specs::Rights::permission))]
-    fn of(number: u8) -> Permission
-        ensures { number_of result ≡ Rights·permission number }
-    {
-        match number {
-            1 => Permission::ReadOnly,
-            2 => Permission::ReadWrite,
-            _ => Permission::NoAccess,
-        }
-    }
-
-    /// Whether it is no right at all, NA.
-    pub fn is_none(self) -> bool
-        ensures { result ≡ eqb (number_of self) 0 }
-    {
-        matches!(self, Permission::NoAccess)
+// The right of a number. Any number but RO and RW counts as NA.
+#[tactic(auto, unfolding(crate::specs::Rights::permission))]
+fn permission(number: u8) -> Permission
+    ensures { number_of result ≡ Rights·permission number }
+{
+    match number {
+        1 => Permission::ReadOnly,
+        2 => Permission::ReadWrite,
+        _ => Permission::NoAccess,
     }
 }
 
@@ -104,7 +75,7 @@ pub fn right(plan: &Plan, permissions: &[[u8; 8]; 32], row: usize, partition: u3
     ensures { number_of result ≡ right_of plan.now permissions.now row partition }
 {
     if declared(plan, row) {
-        Permission::of(number_at(permissions, row, partition))
+        permission(number_at(permissions, row, partition))
     } else {
         Permission::NoAccess
     }

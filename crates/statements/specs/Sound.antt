@@ -12,7 +12,7 @@ use Rattle.statements.specs.declared.Permissions.{Permissions}
 use Rattle.statements.specs.declared.Grants.{Grants}
 use Rattle.statements.specs.declared.Statement.{Statement}
 use Rattle.statements.specs.declared.Statement.TheVariants.{Code, Dseg, Mseg, Malformed}
-use Rattle.statements.specs.Statements.{byte, head_at, permission_at, bits_of, packed, row_of, permissions_from, permissions_at, tail_at, code_at, dseg_at, mseg_at}
+use Rattle.statements.specs.Statements.{byte, head_at, permission_at, number_of, packed, row_of, permissions_from, permissions_at, tail_at, code_at, dseg_at, mseg_at}
 use Rattle.statements.specs.Kinds.{by_token}
 
 -- `[number] =`, from place `at` on
@@ -56,7 +56,7 @@ code_read text at =
 
 -- a permission, from place `at` on
 pub data PermissionRead (text : List ℕ) (at : ℕ) : Option (Permission × ℕ) → Type 0 where
-  is : (permission : Permission) (next : ℕ) → bits_of permission ≤ 2 → at < next → (at ≤ length text → next ≤ length text)
+  is : (permission : Permission) (next : ℕ) → number_of permission ≤ 2 → at < next → (at ≤ length text → next ≤ length text)
       → PermissionRead text at (Some (permission, next))
   bad : PermissionRead text at None
 

@@ -42,14 +42,14 @@ permission_at text at =
     (word_at (82 ∷ 87 ∷ []) text at) λ next. Some (ReadWrite, next)
 
 -- 0 NA, 1 RO, 2 RW
-abbrev pub bits_of : Permission → ℕ
-bits_of NoAccess = 0
-bits_of ReadOnly = 1
-bits_of ReadWrite = 2
+abbrev pub number_of : Permission → ℕ
+number_of NoAccess = 0
+number_of ReadOnly = 1
+number_of ReadWrite = 2
 
 -- one permission more in the number that holds the last eight, two bits for each, the last one lowest
 unfoldable pub packed : ℕ → Permission → ℕ
-packed bits permission = (bits * 4 + bits_of permission) % 65536
+packed bits permission = (bits * 4 + number_of permission) % 65536
 
 -- so many permissions, and the number that holds the last eight
 abbrev pub row_of : ℕ → ℕ → Permissions

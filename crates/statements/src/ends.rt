@@ -27,7 +27,7 @@ fn permission_at(text: &[u8], at: usize) -> Option<(Permission, usize)>
 fn packed(bits: u32, permission: Permission) -> u32
     ensures { result ≡ packed bits permission }
 {
-    (bits % 16384 * 4 + permission.bits()) % 65536
+    (bits % 16384 * 4 + u32::from(permission.number())) % 65536
 }
 
 // Permissions, each behind a comma; each takes three bytes at least, so that there are fewer than the text has bytes.

@@ -7,7 +7,7 @@ use text::tokens;
 
 mod ends;
 
-ghost use Rattle.std.specs.Prelude.{◌≡◌};
+ghost use Rattle.std.specs.Prelude.{◌≡◌, eqb};
 ghost use Rattle.statements.specs.Statements.{kind_at, head_at, code_at, dseg_at, mseg_at};
 
 /// Which statement the next token begins, and the place behind that token.
@@ -31,17 +31,24 @@ pub enum Permission {
 }
 
 impl Permission {
-    ghost use Rattle.statements.specs.Statements.{bits_of};
+    ghost use Rattle.statements.specs.Statements.{number_of};
 
-    /// Its two bits: 0 NA, 1 RO, 2 RW.
-    pub fn bits(self) -> u32
-        ensures { result ≡ bits_of self }
+    /// Its number: 0 NA, 1 RO, 2 RW.
+    pub fn number(self) -> u8
+        ensures { result ≡ number_of self }
     {
         match self {
             Permission::NoAccess => 0,
             Permission::ReadOnly => 1,
             Permission::ReadWrite => 2,
         }
+    }
+
+    /// Whether it is no right at all, NA.
+    pub fn is_none(self) -> bool
+        ensures { result ≡ eqb (number_of self) 0 }
+    {
+        matches!(self, Permission::NoAccess)
     }
 }
 

@@ -1,5 +1,5 @@
 -- `database::entry` meets its contract: four numbers over zeros, and the path behind them. Assumes nothing.
-use Rattle.memory.specs.Rights.{number_of}
+use Rattle.statements.specs.Statements.{number_of}
 use Rattle.database.specs.LaidLaws.{entry-made}
 use Rattle.database.proofs.entry.Goals as goal
 
