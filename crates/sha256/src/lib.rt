@@ -51,12 +51,9 @@ pub fn digest(message: &[u8]) -> [u8; 32]
 {
     let blocks = padding::count(message.len());
     let mut state = start();
-    let mut i = 0;
-    while i < blocks {
-        let block = padding::block(message, i);
-        let next = compress(state, block);
+    for i in 0..blocks {
+        let next = compress(state, padding::block(message, i));
         state = next;
-        i += 1;
     }
     words::joined(state)
 }

@@ -38,7 +38,7 @@ pub(crate) fn block(message: &[u8], i: usize) -> [u32; 16]
 fn word(a: u8, b: u8, c: u8, d: u8) -> u32
     ensures { result ≡ a * 2 ^ 24 + b * 2 ^ 16 + c * 2 ^ 8 + d }
 {
-    (a as u32) * 0x100_0000 + (b as u32) * 0x1_0000 + (c as u32) * 0x100 + d as u32
+    u32::from_be_bytes([a, b, c, d])
 }
 
 fn word_at(bytes: &[u8], at: usize) -> u32

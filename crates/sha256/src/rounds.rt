@@ -8,7 +8,6 @@ ghost use Rattle.sha256.specs.Compression.{round as Compression·round};
 ghost use Rattle.sha256.specs.Window.{slide as Window·slide, step as Window-step, steps, quarter};
 
 use crate::words::{choose, majority, sigma_0, sigma_1, sigma_a, sigma_e};
-use std::num::wrapping_add_u32;
 
 // The working variables before a round, and the sixteen schedule words from that round's on.
 #[derive(Clone, Copy)]
@@ -17,35 +16,42 @@ pub(crate) struct Turn {
     pub window: [u32; 16],
 }
 
+#[tactic(auto, unfolding(crate::specs::Compression::T1, crate::specs::Words::add))]
 fn first_sum(v: [u32; 8], k: u32, w: u32) -> u32
     ensures { result ≡ T1 k w v }
 {
-    let with_sigma = wrapping_add_u32(v[7], sigma_e(v[4]));
-    let with_choice = wrapping_add_u32(with_sigma, choose(v[4], v[5], v[6]));
-    wrapping_add_u32(wrapping_add_u32(with_choice, k), w)
+    v[7].wrapping_add(sigma_e(v[4]))
+        .wrapping_add(choose(v[4], v[5], v[6]))
+        .wrapping_add(k)
+        .wrapping_add(w)
 }
 
+#[tactic(auto, unfolding(crate::specs::Compression::T2, crate::specs::Words::add))]
 fn second_sum(v: [u32; 8]) -> u32
     ensures { result ≡ T2 v }
 {
-    wrapping_add_u32(sigma_a(v[0]), majority(v[0], v[1], v[2]))
+    sigma_a(v[0]).wrapping_add(majority(v[0], v[1], v[2]))
 }
 
+#[tactic(auto, unfolding(crate::specs::Compression::round, crate::specs::Words::add))]
 fn round(v: [u32; 8], k: u32, w: u32) -> [u32; 8]
     ensures { result ≡ Compression·round k w v }
 {
     let first = first_sum(v, k, w);
     let second = second_sum(v);
-    let a = wrapping_add_u32(first, second);
-    let e = wrapping_add_u32(v[3], first);
+    let a = first.wrapping_add(second);
+    let e = v[3].wrapping_add(first);
     [a, v[0], v[1], v[2], e, v[4], v[5], v[6]]
 }
 
+#[tactic(auto, unfolding(crate::specs::Compression::next_word, crate::specs::Words::add))]
 fn next_word(w: [u32; 16]) -> u32
     ensures { result ≡ next_word 16 w }
 {
-    let with_seventh = wrapping_add_u32(sigma_1(w[14]), w[9]);
-    wrapping_add_u32(wrapping_add_u32(with_seventh, sigma_0(w[1])), w[0])
+    sigma_1(w[14])
+        .wrapping_add(w[9])
+        .wrapping_add(sigma_0(w[1]))
+        .wrapping_add(w[0])
 }
 
 fn slide(w: [u32; 16]) -> [u32; 16]
@@ -157,17 +163,18 @@ pub(crate) fn fourth_quarter(x0: Turn) -> Turn
 }
 
 // Word by word, v added to h.
+#[tactic(auto, unfolding(crate::specs::Compression::sums, crate::specs::Words::add))]
 pub(crate) fn sums(v: [u32; 8], h: [u32; 8]) -> [u32; 8]
     ensures { result ≡ Compression·sums v h }
 {
     [
-        wrapping_add_u32(v[0], h[0]),
-        wrapping_add_u32(v[1], h[1]),
-        wrapping_add_u32(v[2], h[2]),
-        wrapping_add_u32(v[3], h[3]),
-        wrapping_add_u32(v[4], h[4]),
-        wrapping_add_u32(v[5], h[5]),
-        wrapping_add_u32(v[6], h[6]),
-        wrapping_add_u32(v[7], h[7]),
+        v[0].wrapping_add(h[0]),
+        v[1].wrapping_add(h[1]),
+        v[2].wrapping_add(h[2]),
+        v[3].wrapping_add(h[3]),
+        v[4].wrapping_add(h[4]),
+        v[5].wrapping_add(h[5]),
+        v[6].wrapping_add(h[6]),
+        v[7].wrapping_add(h[7]),
     ]
 }

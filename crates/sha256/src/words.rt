@@ -56,15 +56,11 @@ pub(crate) fn sigma_1(x: u32) -> u32
 }
 
 // A word as four bytes, the highest first.
+#[tactic(auto, unfolding(crate::specs::Words::bytes_of))]
 fn bytes_of(x: u32) -> [u8; 4]
     ensures { result ≡ bytes_of x }
 {
-    [
-        ((x >> 24) % 256) as u8,
-        ((x >> 16) % 256) as u8,
-        ((x >> 8) % 256) as u8,
-        (x % 256) as u8,
-    ]
+    x.to_be_bytes()
 }
 
 // The eight words as thirty-two bytes.
