@@ -2,6 +2,8 @@
 //
 // There is no loop: in straight-line code the moving of the eight working variables and of the
 // window is a renaming that costs nothing, and the constants stand in the code and not on the stack.
+// Stays: four quarters of sixteen steps. A loop would read its constants from a table, and a table would be copied to
+// the stack at each use (docs/DECISIONS.md).
 ghost use Rattle.std.specs.Prelude.{◌≡◌};
 ghost use Rattle.sha256.specs.Compression.{next_word, T1, T2, sums as Compression·sums};
 ghost use Rattle.sha256.specs.Compression.{round as Compression·round};

@@ -7,7 +7,8 @@ ghost use Rattle.sha256.specs.Words.{bytes_of, rotr};
 ghost use Rattle.sha256.specs.Functions.{Ch, Maj, Σ0, Σ1, σ0, σ1};
 ghost use Rattle.sha256.specs.Digest.{joined as Digest·joined};
 
-// x rotated to the right by n bits.
+// x rotated to the right by n bits. Stays: a helper of our own, by the project's rule of a digest of its own
+// (docs/DECISIONS.md, "Forms that stay").
 fn rotate(x: u32, n: u32) -> u32
     requires { (0 < n) × (n < 32) }
     ensures { result ≡ rotr n x }
