@@ -16,7 +16,7 @@ ghost use Rattle.begin.specs.Start.{begun_of, beginning, start};
 ghost use Rattle.begin.specs.StartLaws.{set_up};
 
 /// What an accepted start fixes, and the state that it begins with.
-#[derive(Clone, Copy)]
+#[derive(Clone, Copy, Debug, PartialEq, Eq)]
 pub struct Begun {
     pub plan: Plan,
     pub state: State,
@@ -66,6 +66,7 @@ fn set_up(
 
 /// Starts a terminal of `count` partitions, of which those with a flag are active, as the text says. A refused start leaves what was lent as
 /// it was.
+// Stays: nine parameters, since a public function keeps its list (docs/DECISIONS.md, "Forms that stay").
 pub fn start(
     count: u32,
     active: [bool; 8],

@@ -1,4 +1,4 @@
--- What is measured: a terminal of eight partitions, all active, without soft power, as start leaves it (document 01, "Parts of a terminal").
+-- What is measured: a terminal of eight partitions, all active, without soft power, as start leaves it.
 use Rattle.std.specs.Prelude.{true, false, List, ℕ, replicate}
 use Rattle.terminal.specs.declared.Terminal.{Terminal}
 use Rattle.terminal.specs.declared.Answer.{Answer}

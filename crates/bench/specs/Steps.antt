@@ -1,4 +1,4 @@
--- One turn of each measured call, by the terminal's own definitions (document 01, "Calls"). The scene is what start, or a login behind it, left; the call is made on
+-- One turn of each measured call, by the terminal's own definitions. The scene is what start, or a login behind it, left; the call is made on
 -- the terminal of the answer before it.
 use Rattle.std.specs.Prelude.{List, ℕ}
 use Rattle.terminal.specs.declared.Answer.{Answer}

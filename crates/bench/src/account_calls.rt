@@ -6,7 +6,7 @@ ghost use Rattle.bench.specs.Steps.{login_turn, logout_turn, who_turn, set_passw
 
 use super::scene;
 
-// Each turn logs out and logs in, since a second login is refused; the number is the login's.
+/// Each turn logs out and logs in, since a second login is refused; the number is the login's.
 #[unsafe(no_mangle)]
 pub extern "C" fn virpulens_bench_logout_login(
     turns: u32,
@@ -30,6 +30,7 @@ pub extern "C" fn virpulens_bench_logout_login(
     last.number
 }
 
+/// A logout in each turn; the number is the last one's.
 #[unsafe(no_mangle)]
 pub extern "C" fn virpulens_bench_logout(
     turns: u32,
@@ -50,7 +51,7 @@ pub extern "C" fn virpulens_bench_logout(
     last.number
 }
 
-// Behind a login, so that there is a name to write.
+/// Behind a login, so that there is a name to write.
 #[unsafe(no_mangle)]
 pub extern "C" fn virpulens_bench_who(
     turns: u32,
@@ -84,7 +85,7 @@ pub extern "C" fn virpulens_bench_who(
     last.number
 }
 
-// Behind a login.
+/// Behind a login.
 #[unsafe(no_mangle)]
 pub extern "C" fn virpulens_bench_set_password(
     turns: u32,

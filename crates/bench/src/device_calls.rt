@@ -6,7 +6,7 @@ ghost use Rattle.bench.specs.Steps.{read_next_turn, read_random_turn, write_next
 
 use super::scene;
 
-// Each turn types a key, which the focused partition 0 gets, and reads keys: with no key typed there would be nothing to read.
+/// Each turn types a key, which the focused partition 0 gets, and reads keys: with no key typed there would be nothing to read.
 #[unsafe(no_mangle)]
 pub extern "C" fn virpulens_bench_key_read_next(
     turns: u32,
@@ -31,6 +31,7 @@ pub extern "C" fn virpulens_bench_key_read_next(
     last.number
 }
 
+/// A part of the screen is read in each turn.
 #[unsafe(no_mangle)]
 pub extern "C" fn virpulens_bench_read_random(
     turns: u32,
@@ -56,6 +57,7 @@ pub extern "C" fn virpulens_bench_read_random(
     last.number
 }
 
+/// Cells are written from the cursor on in each turn.
 #[unsafe(no_mangle)]
 pub extern "C" fn virpulens_bench_write_next(
     turns: u32,
@@ -80,6 +82,7 @@ pub extern "C" fn virpulens_bench_write_next(
     last.number
 }
 
+/// Cells are written from a place on in each turn.
 #[unsafe(no_mangle)]
 pub extern "C" fn virpulens_bench_write_random(
     turns: u32,

@@ -6,6 +6,7 @@ ghost use Rattle.bench.specs.Steps.{load_turn, store_turn, flush_turn, configura
 
 use super::scene;
 
+/// A part of a segment is read in each turn.
 #[unsafe(no_mangle)]
 pub extern "C" fn virpulens_bench_load(
     turns: u32,
@@ -31,6 +32,7 @@ pub extern "C" fn virpulens_bench_load(
     last.number
 }
 
+/// A part of a segment is written in each turn.
 #[unsafe(no_mangle)]
 pub extern "C" fn virpulens_bench_store(
     turns: u32,
@@ -56,6 +58,7 @@ pub extern "C" fn virpulens_bench_store(
     last.number
 }
 
+/// A segment goes back into its file in each turn.
 #[unsafe(no_mangle)]
 pub extern "C" fn virpulens_bench_flush(
     turns: u32,
@@ -80,6 +83,7 @@ pub extern "C" fn virpulens_bench_flush(
     last.number
 }
 
+/// The configuration database is read in each turn.
 #[unsafe(no_mangle)]
 pub extern "C" fn virpulens_bench_configuration(
     turns: u32,

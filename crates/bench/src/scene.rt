@@ -1,4 +1,7 @@
 // The terminal that is measured: eight partitions, all active, without soft power.
+//
+// Stays: the areas one by one, as C lends them to each exported function; a struct would be built there for one call, which is no shorter
+// (docs/DECISIONS.md, "Forms that stay").
 ghost use Rattle.std.specs.Prelude.{◌≡◌};
 ghost use Rattle.bench.specs.Scene.{scene, opened_from, opened, logged_in};
 
@@ -16,10 +19,9 @@ pub(crate) fn begun_from(
 ) -> Answer
     ensures { scene result arena.new tables.new screens.new permissions.new ≡ opened_from given text.now store.now arena.old tables.old screens.old permissions.old }
 {
-    let active = [true; 8];
     let started = given.start(
         8,
-        active,
+        [true; 8],
         false,
         text,
         store,
@@ -28,11 +30,10 @@ pub(crate) fn begun_from(
         screens,
         permissions,
     );
-    let terminal = started.terminal;
     Answer {
         number: started.number,
         count: 0,
-        terminal,
+        terminal: started.terminal,
     }
 }
 

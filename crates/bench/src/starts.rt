@@ -8,7 +8,7 @@ ghost use Rattle.bench.specs.Steps.{start_turn};
 
 use super::scene;
 
-// Each turn starts the terminal anew.
+/// Each turn starts the terminal anew.
 #[unsafe(no_mangle)]
 pub extern "C" fn virpulens_bench_start(
     turns: u32,
@@ -36,7 +36,7 @@ pub extern "C" fn virpulens_bench_start(
     last.number
 }
 
-// Each turn types a key. An event answers nothing, so one read of the keys behind them all shows what they did, and the number is that one's.
+/// Each turn types a key. An event answers nothing, so one read of the keys behind them all shows what they did, and the number is that one's.
 #[unsafe(no_mangle)]
 pub extern "C" fn virpulens_bench_key(
     turns: u32,
@@ -53,11 +53,10 @@ pub extern "C" fn virpulens_bench_key(
     ensures { seen result arena.new tables.new screens.new buffer.new ≡ events_after turns (key byte) (λ t. read_next t partition 1 partition request buffer.old) (opened text.now store.now arena.old tables.old screens.old none) }
 {
     let mut permissions = [[0u8; 8]; 32];
-    let first = scene::begun(text, store, arena, tables, screens, &mut permissions);
-    let mut last = first.terminal;
+    let mut last = scene::begun(text, store, arena, tables, screens, &mut permissions).terminal;
     for _ in 0..turns {
         last = last.key(byte);
     }
-    let read = last.read_next(partition, 1, partition, request, buffer);
-    read.number
+    last.read_next(partition, 1, partition, request, buffer)
+        .number
 }

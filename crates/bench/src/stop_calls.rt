@@ -6,6 +6,7 @@ ghost use Rattle.bench.specs.Steps.{shutdown_turn, powerdown_turn};
 
 use super::scene;
 
+/// A shutdown in each turn.
 #[unsafe(no_mangle)]
 pub extern "C" fn virpulens_bench_shutdown(
     turns: u32,
@@ -28,6 +29,7 @@ pub extern "C" fn virpulens_bench_shutdown(
     last.number
 }
 
+/// A power-down in each turn.
 #[unsafe(no_mangle)]
 pub extern "C" fn virpulens_bench_powerdown(
     turns: u32,

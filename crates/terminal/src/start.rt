@@ -7,6 +7,7 @@ use begin::Begun;
 
 impl Terminal {
     /// Starts the terminal, or starts it anew. A refused start changes nothing and hands back the terminal given.
+    // Stays: nine parameters, since a public function keeps its list (docs/DECISIONS.md, "Forms that stay").
     pub fn start(
         self,
         count: u32,

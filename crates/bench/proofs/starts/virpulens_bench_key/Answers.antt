@@ -12,4 +12,4 @@ loop-preserved c = once_more _ _ _ _ _ c.loop.invariant c.key-last.ensures
 pub returns : goal.returns
 returns c = let args = c.args in
     let all : c.loop.counter ≡ args.turns = omega arith in
-    events_end _ _ (opened args.text.now args.store.now args.arena.now args.tables.now args.screens.now none) _ _ _ _ _ _ _ all c.begun-first.ensures c.loop.invariant c.read_next-read.ensures
+    events_end _ _ (opened args.text.now args.store.now args.arena.now args.tables.now args.screens.now none) _ _ _ _ _ _ _ all c.begun.ensures c.loop.invariant c.read_next.ensures
