@@ -11,7 +11,7 @@ use state::{PARTITIONS, Plan, State};
 fn running(plan: &Plan, state: &State) -> bool
     ensures { result ≡ running plan.now state.now }
 {
-    test::good(*plan, *state) && !state.stopped
+    test::good(plan, state) && !state.stopped
 }
 
 /// A key goes to the focused partition.

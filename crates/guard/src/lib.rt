@@ -17,8 +17,8 @@ ghost use Rattle.guard.specs.Guard.{guard};
 /// The refusal that every call begins with, BAD_STATE, STOPPED or BAD_PARTITION, or none where the call goes on.
 /// `wrong`: a lent area is not as long as at start, or the calling partition's password table fails its test.
 #[tactic(auto, unfolding(crate::specs::Guard::guard, checks::specs::Checks::after, checks::specs::Checks::refused))]
-pub fn guard(plan: Plan, state: State, wrong: bool, partition: u32) -> Result<(), Refusal>
-    ensures { answer result ≡ guard plan state wrong partition }
+pub fn guard(plan: &Plan, state: &State, wrong: bool, partition: u32) -> Result<(), Refusal>
+    ensures { answer result ≡ guard plan.now state.now wrong partition }
 {
     if wrong || !test::good(plan, state) {
         return Err(Refusal::BadState);

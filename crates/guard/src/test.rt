@@ -87,8 +87,8 @@ fn good_plan(plan: &Plan) -> bool
 
 /// Nothing in the plan or the state leads outside its area, and the focus is on an active partition.
 #[tactic(auto, unfolding(crate::specs::Test::good))]
-pub fn good(plan: Plan, state: State) -> bool
-    ensures { result ≡ good plan state }
+pub fn good(plan: &Plan, state: &State) -> bool
+    ensures { result ≡ good plan.now state.now }
 {
-    good_plan(&plan) && plan.is_active(state.focus) && good_partitions(&state.partitions)
+    good_plan(plan) && plan.is_active(state.focus) && good_partitions(&state.partitions)
 }

@@ -222,24 +222,24 @@ impl Plan {
 
     /// Segment i, or the empty one.
     #[tactic(auto, unfolding(crate::specs::Parts::segment_at))]
-    pub fn segment(self, i: usize) -> Segment
-        ensures { result ≡ segment_at self i }
+    pub fn segment(&self, i: usize) -> Segment
+        ensures { result ≡ segment_at self.now i }
     {
         self.segments.get(i).copied().unwrap_or(Segment::NONE)
     }
 
     /// The seat of partition p, or the empty one.
     #[tactic(auto, unfolding(crate::specs::Parts::seat_at))]
-    pub fn seat(self, p: usize) -> Seat
-        ensures { result ≡ seat_at self p }
+    pub fn seat(&self, p: usize) -> Seat
+        ensures { result ≡ seat_at self.now p }
     {
         self.seats.get(p).copied().unwrap_or(Seat::NONE)
     }
 
     /// Whether partition p is an active one.
     #[tactic(auto, unfolding(crate::specs::Parts::is_active))]
-    pub fn is_active(self, p: usize) -> bool
-        ensures { result ≡ is_active self p }
+    pub fn is_active(&self, p: usize) -> bool
+        ensures { result ≡ is_active self.now p }
     {
         p < self.count && self.seat(p).active
     }
@@ -261,8 +261,8 @@ impl State {
 
     /// Partition p, or the empty one.
     #[tactic(auto, unfolding(crate::specs::Parts::part_at))]
-    pub fn part(self, p: usize) -> Partition
-        ensures { result ≡ part_at self p }
+    pub fn part(&self, p: usize) -> Partition
+        ensures { result ≡ part_at self.now p }
     {
         self.partitions
             .get(p)

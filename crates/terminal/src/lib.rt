@@ -64,7 +64,7 @@ impl Terminal {
     fn guard(&self, wrong: bool, partition: u32) -> u32
         ensures { result ≡ guard_of self.now wrong partition }
     {
-        checks::number_behind(0, guard::guard(self.plan, self.state, wrong, partition))
+        checks::number_behind(0, guard::guard(&self.plan, &self.state, wrong, partition))
     }
 
     // The calling partition.
