@@ -3,7 +3,7 @@ use Rattle.std.specs.Prelude.{cond, List, [], ◌∷◌, ℕ, ◌+◌, ltb, get_
 use Rattle.image.specs.Image.{spot}
 use Rattle.octets.specs.declared.span.Span.{Span}
 use Rattle.setup.specs.declared.Setup.{Setup}
-use Rattle.octets.specs.Spans.{no_span, span, bytes_of}
+use Rattle.octets.specs.Spans.{no_span, bytes_of}
 use Rattle.setup.specs.Setup.{no_segment, is_active}
 use Rattle.begin.specs.Each.{firsts}
 

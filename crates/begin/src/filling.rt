@@ -1,4 +1,5 @@
-// What start writes into the lent areas, from its plan. What does not fit is not written, so that nothing is asked of the areas.
+// What start writes into the lent areas, from its plan. What does not fit is not written, so that nothing is asked of
+// the areas.
 ghost use Rattle.std.specs.Prelude.{cond, ◌≡◌, ◌+◌, ◌*◌, ◌<◌, min, length, replicate};
 ghost use Rattle.octets.specs.Lists.{over, write_at};
 ghost use Rattle.state.specs.Parts.{is_active};

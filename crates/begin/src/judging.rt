@@ -1,4 +1,5 @@
-// The refusals at start that are not the text's own: 401 to 403 before it is read, 415 and 416 behind its last statement.
+// The refusals at start that are not the text's own: 401 to 403 before it is read, 415 and 416 behind its last
+// statement.
 ghost use Rattle.std.specs.Prelude.{not, ◌||◌, [], ◌∷◌, ◌≡◌, eqb, ltb, sum};
 ghost use Rattle.checks.specs.Checks.{◌when◌, after};
 ghost use Rattle.checks.specs.Refusals.{answer};
@@ -67,7 +68,8 @@ fn no_room(setup: &Setup, files: &Files, kept: &Kept) -> bool
         || kept.screens / 2000 < setup.partitions
 }
 
-// A password file is missing or malformed. A file that was found does not stand at place 0, where a record's header would be.
+// A password file is missing or malformed. A file that was found does not stand at place 0, where a record's header
+// would be.
 #[tactic(auto, unfolding(crate::specs::Filled::file_bytes, octets::specs::Spans::bytes_of))]
 fn bad_file(file: Span, store: &[u8]) -> bool
     ensures { result ≡ (eqb file.place 0 || not (well_formed (file_bytes store.now file))) }

@@ -31,7 +31,8 @@ struct Areas<'a> {
     permissions: &'a mut [[u8; 8]; 32],
 }
 
-// Starts a terminal as a set-up says, where no statement of its text was refused. Everything is judged before anything is written.
+// Starts a terminal as a set-up says, where no statement of its text was refused. Everything is judged before anything
+// is written.
 fn set_up(
     setup: &Setup,
     soft: bool,
@@ -64,8 +65,8 @@ fn set_up(
     })
 }
 
-/// Starts a terminal of `count` partitions, of which those with a flag are active, as the text says. A refused start leaves what was lent as
-/// it was.
+/// Starts a terminal of `count` partitions, of which those with a flag are active, as the text says. A refused start
+/// leaves what was lent as it was.
 // Stays: nine parameters, since a public function keeps its list (docs/DECISIONS.md, "Forms that stay").
 pub fn start(
     count: u32,

@@ -6,7 +6,8 @@ ghost use Rattle.bench.specs.Steps.{read_next_turn, read_random_turn, write_next
 
 use super::scene;
 
-/// Each turn types a key, which the focused partition 0 gets, and reads keys: with no key typed there would be nothing to read.
+/// Each turn types a key, which the focused partition 0 gets, and reads keys: with no key typed there would be nothing
+/// to read.
 #[unsafe(no_mangle)]
 pub extern "C" fn virpulens_bench_key_read_next(
     turns: u32,

@@ -1,7 +1,7 @@
 // The terminal that is measured: eight partitions, all active, without soft power.
 //
-// Stays: the areas one by one, as C lends them to each exported function; a struct would be built there for one call, which is no shorter
-// (docs/DECISIONS.md, "Forms that stay").
+// Stays: the areas one by one, as C lends them to each exported function; a struct would be built there for one call,
+// which is no shorter (docs/DECISIONS.md, "Forms that stay").
 ghost use Rattle.std.specs.Prelude.{◌≡◌};
 ghost use Rattle.bench.specs.Scene.{scene, opened_from, opened, logged_in};
 

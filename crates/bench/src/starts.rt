@@ -36,7 +36,8 @@ pub extern "C" fn virpulens_bench_start(
     last.number
 }
 
-/// Each turn types a key. An event answers nothing, so one read of the keys behind them all shows what they did, and the number is that one's.
+/// Each turn types a key. An event answers nothing, so one read of the keys behind them all shows what they did, and
+/// the number is that one's.
 #[unsafe(no_mangle)]
 pub extern "C" fn virpulens_bench_key(
     turns: u32,

@@ -2,7 +2,8 @@
 ghost use Rattle.std.specs.Prelude.{◌≡◌};
 ghost use Rattle.checks.specs.Refusals.{number_of, behind};
 
-/// A refusal, by the name of its number. Two numbers have one name, BAD_PARTITION: 213, of a call, and 407, of a set-up text.
+/// A refusal, by the name of its number. Two numbers have one name, BAD_PARTITION: 213, of a call, and 407, of a
+/// set-up text.
 #[derive(Clone, Copy, Debug, PartialEq, Eq)]
 pub enum Refusal {
     /// 201: an mseg has no file.
@@ -122,7 +123,8 @@ impl Refusal {
     }
 }
 
-/// The number of an outcome behind the common checks, which came to `n`: n where that refuses, else the outcome's own, or 0.
+/// The number of an outcome behind the common checks, which came to `n`: n where that refuses, else the outcome's own,
+/// or 0.
 pub fn number_behind(n: u32, outcome: Result<(), Refusal>) -> u32
     ensures { result ≡ behind n outcome }
 {

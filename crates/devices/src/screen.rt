@@ -34,7 +34,8 @@ pub fn blank(cells: &mut [u8])
     cells.fill(SPACE);
 }
 
-// Moves every row up by one and blanks the last.
+// Moves every row up by one and blanks the last. Stays: that the cells are a screen's is asked here and in the two
+// functions below. With an array of CELLS in place of the slice the proofs of this one and of `put` did not close.
 fn scroll(cells: &mut [u8])
     requires { length cells.old ≡ 2000 }
     ensures { cells.new ≡ scrolled cells.old }

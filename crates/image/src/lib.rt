@@ -1,7 +1,7 @@
 // The store image: a row of records of kind 1, each a path length (one byte, 2 to 63), a path and contents.
 //
-// Any bytes can be asked. Looking for a path walks the records from the first one on, passes over what is no good record and
-// ends where the row ends or cuts a record off.
+// Any bytes can be asked. Looking for a path walks the records from the first one on, passes over what is no good
+// record and ends where the row ends or cuts a record off.
 #![tactic(auto)]
 
 use octets::search;
@@ -24,6 +24,7 @@ fn find_from(image: &[u8], from: Cursor, path: &[u8]) -> Option<Span>
     ensures { result ≡ spot_in path.now from.at (chunks (drop from.at image.now)) }
 {
     let mut cursor = from;
+    // Stays: a `loop`. Each of a record's cases goes its own way, and a `while let` would name one of them.
     loop {
         match reader::read(image, cursor) {
             Item::File {

@@ -1,8 +1,9 @@
 // The reader of an image: a struct that holds the image and keeps the place of the next record.
 //
-// The functions over it are few and thin, no other file sees a reader, and the work is left to `item_at`. Whoever walks an image calls `read`, which takes
-// and returns plain values.
-// Stays: the image is a slice and its place a cursor by value, then a thin struct that is taken apart at once (docs/DECISIONS.md, "The reader").
+// The functions over it are few and thin, no other file sees a reader, and the work is left to `item_at`. Whoever
+// walks an image calls `read`, which takes and returns plain values.
+// Stays: the image is a slice and its place a cursor by value, then a thin struct that is taken apart at once
+// (docs/DECISIONS.md, "The reader").
 ghost use Rattle.std.specs.Prelude.{◌≡◌};
 ghost use Rattle.rows.specs.Steps.{first_place};
 ghost use Rattle.image.specs.Items.{item_at};

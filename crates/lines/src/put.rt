@@ -3,7 +3,7 @@ ghost use Rattle.std.specs.Prelude.{◌≡◌, ◌||◌, eqb};
 
 use super::output::Output;
 
-// Permissions, as a set-up's rows have them; any other number is none.
+// Permissions, as a set-up's rows have them; any other number is none. They stay numbers: a line is promised for each.
 const READ_ONLY: u8 = 1;
 
 const READ_WRITE: u8 = 2;

@@ -1,4 +1,5 @@
-// One record of a password file, as a slice of its own: the only place that knows a record's kind and what stands where in it.
+// One record of a password file, as a slice of its own: the only place that knows a record's kind and what stands
+// where in it.
 ghost use Rattle.std.specs.Prelude.{◌≡◌};
 ghost use Rattle.passwords.specs.Account.{name, digest_of, no_zero, shaped, obeys, changed};
 
@@ -27,6 +28,7 @@ pub(crate) fn digest(entry: &[u8]) -> &[u8]
 }
 
 // Whether no byte is zero.
+// Stays: by the search for a zero. With `iter().all(..)` the proof did not close in three tries.
 fn no_zero(title: &[u8]) -> bool
     ensures { result ≡ no_zero title.now }
 {
@@ -34,6 +36,7 @@ fn no_zero(title: &[u8]) -> bool
 }
 
 // Whether the record is as long as its header says and has room for a digest and a name of 1 to 32 bytes.
+// Stays: `&` here and in `obeys`. With `&&` the proof falls apart where the branches join.
 pub(crate) fn shaped(entry: &[u8]) -> bool
     ensures { result ≡ shaped entry.now }
 {

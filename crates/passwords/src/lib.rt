@@ -1,6 +1,7 @@
 // The password file of a partition: a row of records, each with a digest and a name.
 //
-// Any bytes can be asked: no function requires anything of them. A record that the file's end cuts off goes to the end, and counts as one.
+// Any bytes can be asked: no function requires anything of them. A record that the file's end cuts off goes to the
+// end, and counts as one.
 #![tactic(auto)]
 
 use octets::span::Span;
@@ -87,7 +88,8 @@ pub fn well_formed(file: &[u8]) -> bool
     true
 }
 
-/// Whether a table in memory can be read: every record ends inside it and has room for a digest and a name, and there are at most 64.
+/// Whether a table in memory can be read: every record ends inside it and has room for a digest and a name, and there
+/// are at most 64.
 pub fn sound(file: &[u8]) -> bool
     ensures { result ≡ sound file.now }
 {
@@ -137,7 +139,8 @@ pub fn set_digest(file: &mut [u8], i: usize, new: &[u8])
     account::change(&mut file[span.place..end], new);
 }
 
-/// Lays the first k bytes of `new` over the start of `old`: what a store that takes k bytes has of a file written from its first byte on.
+/// Lays the first k bytes of `new` over the start of `old`: what a store that takes k bytes has of a file written from
+/// its first byte on.
 #[tactic(auto, unfolding(octets::specs::Lists::write_at, octets::specs::Lists::part))]
 pub fn write_first(new: &[u8], old: &mut [u8], k: usize)
     ensures { old.new ≡ over (take k new.now) old.old }

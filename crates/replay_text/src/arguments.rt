@@ -22,8 +22,8 @@ pub struct Arguments {
     pub held: usize,
 }
 
-// What was read so far. Stays a flag beside the rest, and no Option: a refused word ends nothing. The bytes of the words
-// behind it are laid all the same, each behind those before (`read_words` of specs/Arguments).
+// What was read so far. Stays a flag beside the rest, and no Option: a refused word ends nothing. The bytes of the
+// words behind it are laid all the same, each behind those before (`read_words` of specs/Arguments).
 #[derive(Clone, Copy, Debug)]
 struct Sofar {
     good: bool,
@@ -156,8 +156,8 @@ fn argument(sofar: &mut Sofar, kind: u8, word: &[u8], given: &mut [u8])
     }
 }
 
-/// Reads the words from place `at` on. They have to be as many as the pattern has letters: a word that is missing is read
-/// as an empty one, which no kind allows. `None` where a word is not of its kind, is missing, or is left.
+/// Reads the words from place `at` on. They have to be as many as the pattern has letters: a word that is missing is
+/// read as an empty one, which no kind allows. `None` where a word is not of its kind, is missing, or is left.
 pub fn read(pattern: &[u8], line: &[u8], at: usize, given: &mut [u8]) -> Option<Arguments>
     ensures arguments { result ≡ kept (arguments_of pattern.now line.now at given.old).sofar }
     ensures given { given.new ≡ (arguments_of pattern.now line.now at given.old).given }

@@ -1,6 +1,7 @@
 //! The set-up that a text describes, and what is refused in it at start. It does not know the terminal.
 //!
-//! No public function asks anything of its arguments: every text, every count of partitions and every set-up has its answer.
+//! No public function asks anything of its arguments: every text, every count of partitions and every set-up has its
+//! answer.
 #![tactic(auto)]
 
 use checks::Refusal;
@@ -23,8 +24,8 @@ const LONGEST: usize = 16_384;
 // Forty statements can be accepted: 8 CODE, 16 DSEG and 16 MSEG. A forty-first is refused by its checks.
 const MOST_STATEMENTS: usize = 41;
 
-/// A dseg (with a path, and size 0) or an mseg (with a size, and no path): its host, and the permission of each partition: 0 NA, 1 RO,
-/// 2 RW, and 0 behind the last partition.
+/// A dseg (with a path, and size 0) or an mseg (with a size, and no path): its host, and the permission of each
+/// partition: 0 NA, 1 RO, 2 RW, and 0 behind the last partition.
 #[derive(Clone, Copy, Debug, PartialEq, Eq)]
 pub struct Segment {
     pub path: Span,
@@ -43,8 +44,9 @@ impl Segment {
     };
 }
 
-/// Partitions and which of them are active; the CODE path of each; dsegs and msegs and how many there are. What is not there is 0,
-/// so that equal set-ups are equal structs.
+/// Partitions and which of them are active; the CODE path of each; dsegs and msegs and how many there are. What is not
+/// there is 0, so that equal set-ups are equal structs.
+// Stays: rows with counts, since memory is fixed (docs/DECISIONS.md, "Forms that stay").
 #[derive(Clone, Copy, Debug, PartialEq, Eq)]
 pub struct Setup {
     pub partitions: usize,
@@ -109,7 +111,7 @@ impl Setup {
         self
     }
 
-    // The set-up with one dseg more.
+    // The set-up with one dseg more. Stays beside `with_mseg`: the definitions have both, and each is one line.
     #[tactic(auto, unfolding(crate::specs::Setup::with_dseg))]
     fn with_dseg(mut self, segment: Segment) -> Self
         requires { self.dsegcount < 16 }

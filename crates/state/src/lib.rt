@@ -117,6 +117,8 @@ pub struct Partition {
 }
 
 /// What calls and events move.
+// Stays: a row of eight partitions, of which the plan says how many there are, since memory is fixed
+// (docs/DECISIONS.md, "Forms that stay").
 #[derive(Clone, Copy, Debug, PartialEq, Eq)]
 pub struct State {
     pub partitions: [Partition; 8],

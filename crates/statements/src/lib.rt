@@ -1,5 +1,5 @@
-//! One statement of the set-up text at a time. It is read as it stands; whether it may stand there is judged above. Every function
-//! takes any text and any place in it.
+//! One statement of the set-up text at a time. It is read as it stands; whether it may stand there is judged above.
+//! Every function takes any text and any place in it.
 #![tactic(auto)]
 
 use octets::span::Span;
@@ -11,6 +11,7 @@ ghost use Rattle.std.specs.Prelude.{◌≡◌, eqb};
 ghost use Rattle.statements.specs.Statements.{kind_at, head_at, code_at, dseg_at, mseg_at};
 
 /// Which statement the next token begins, and the place behind that token.
+// Stays: four cases, as the statements are. An `Option` of a word and a place would be taken apart twice.
 #[derive(Clone, Copy, Debug, PartialEq, Eq)]
 pub enum Kind {
     Code(usize),
@@ -68,7 +69,8 @@ pub struct Grants {
 }
 
 /// What stands at a place, and the place behind it.
-// Stays: an answer that the caller takes apart by `let .. else`, whose else arm is the refusal (docs/DECISIONS.md, "Forms that stay").
+// Stays: an answer that the caller takes apart by `let .. else`, whose else arm is the refusal (docs/DECISIONS.md,
+// "Forms that stay").
 #[derive(Clone, Copy, Debug, PartialEq, Eq)]
 pub enum Statement {
     /// `CODE[partition] = path;`
