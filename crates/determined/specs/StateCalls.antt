@@ -1,12 +1,14 @@
 -- Crate state: two results that one contract allows are equal. A theorem for each public function, in the order of the source.
-use Rattle.std.specs.Prelude.{Bool, ◌≡◌, ℕ}
+use Rattle.std.specs.Prelude.{Bool, ◌≡◌, ℕ, Option}
 use Rattle.devices.specs.declared.keyboard.Keyboard.{Keyboard}
+use Rattle.state.specs.declared.device.Device.{Device}
 use Rattle.state.specs.declared.LoginRecord.{LoginRecord}
 use Rattle.state.specs.declared.Partition.{Partition}
 use Rattle.state.specs.declared.Plan.{Plan}
 use Rattle.state.specs.declared.Seat.{Seat}
 use Rattle.state.specs.declared.Segment.{Segment}
 use Rattle.state.specs.declared.State.{State}
+use Rattle.state.specs.Devices.{device_of}
 use Rattle.state.specs.Empty.{nobody, no_partition, no_plan, no_state}
 use Rattle.state.specs.Parts.{with_keyboard, with_cursor, with_login, faulty as Parts·faulty, with_fault, segment_at, seat_at, is_active, part_at, with_part, with_focus, with_stop}
 use Rattle.determined.specs.Determined.{AtMostOne, plain}
@@ -58,3 +60,6 @@ with-focus self p = plain _
 
 pub with_stop_lem : (self : State) (off : Bool) → AtMostOne (λ (x : State). x ≡ with_stop off self)
 with_stop_lem self off = plain _
+
+pub of : (major : ℕ) → AtMostOne (λ (x : Option Device). x ≡ device_of major)
+of major = plain _

@@ -7,8 +7,8 @@ ghost use Rattle.memory.specs.Rights.{permission as Rights·permission};
 ghost use Rattle.memory.specs.Rights.{reach as Rights·reach};
 
 use super::Reach;
-use statements::Permission;
 use state::Plan;
+use statements::Permission;
 
 // The rows of the permission table: dseg i is row i, mseg i is row 16 + i.
 const ROWS: usize = 32;
