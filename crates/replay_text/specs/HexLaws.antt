@@ -1,6 +1,6 @@
 -- Laws of hex digits: digit by digit and byte by byte.
 use Rattle.std.specs.Prelude.{Bool, true, false, cond, ◌&&◌, ◌||◌, List, [], ◌∷◌, ◌++◌, ◌≡◌, refl, ℕ, zero, suc, ◌+◌, ◌-◌, ◌*◌, ◌/◌, ◌%◌, ◌≤◌, ◌<◌, eqb, leb, length, take, get_or}
-use Rattle.std.proofs.Common.{sym, ◌∙◌, le-leb, add-one, arith, lt-ltb, le-ltb, leb-true}
+use Rattle.std.proofs.Common.{sym, ◌∙◌, le-leb, arith, lt-ltb, le-ltb, leb-true}
 use Rattle.std.proofs.lemmas.Bool.{false≢true, lt-leb}
 use Rattle.std.proofs.lemmas.List.{take_more}
 use Rattle.std.specs.List.{list_all}
@@ -80,31 +80,6 @@ byte_at (a ∷ b ∷ l) (suc i) h =
     let e : 2 * suc i ≡ suc (suc (2 * i)) = omega arith in
     let f : 2 * suc i + 1 ≡ suc (suc (2 * i + 1)) = omega arith in
     rw (f, e) (byte_at l i (omega arith))
-
-bytes-even : (l : List ℕ) (i : ℕ) → i < length l / 2
-    → bytes_of (take (2 * i) l) ++ ((worth (get_or l (2 * i) 0) * 16 + worth (get_or l (2 * i + 1) 0)) ∷ []) ≡ bytes_of (take (2 * suc i) l)
-unfolding bytes_of
-bytes-even [] i h = absurd (omega arith)
-bytes-even (a ∷ []) i h = absurd (omega arith)
-bytes-even (a ∷ b ∷ l) zero h = refl
-bytes-even (a ∷ b ∷ l) (suc i) h =
-    let e : 2 * suc i ≡ suc (suc (2 * i)) = omega arith in
-    let f : 2 * suc i + 1 ≡ suc (suc (2 * i + 1)) = omega arith in
-    let g : 2 * suc (suc i) ≡ suc (suc (2 * suc i)) = omega arith in
-    rw (f, e, g, bytes-even l i (omega arith))
-
-pub bytes-more : (l : List ℕ) (i : ℕ) → i < length l / 2
-    → bytes_of (take (2 * i) l) ++ ((worth (get_or l (2 * i) 0) * 16 + worth (get_or l (2 * i + 1) 0)) ∷ []) ≡ bytes_of (take (2 * (i + 1)) l)
-bytes-more l i h = rw (add-one i) (bytes-even l i h)
-
--- an odd digit at the end spells nothing
-pub bytes-whole : (l : List ℕ) → bytes_of (take (2 * (length l / 2)) l) ≡ bytes_of l
-unfolding bytes_of
-bytes-whole [] = refl
-bytes-whole (a ∷ []) = refl
-bytes-whole (a ∷ b ∷ l) =
-    let e : 2 * (suc (suc (length l)) / 2) ≡ suc (suc (2 * (length l / 2))) = omega arith in
-    rw (e, bytes-whole l)
 
 pub first_small : (l : List ℕ) → get_or (bytes_of l) 0 0 ≤ 255
 unfolding bytes_of

@@ -57,16 +57,10 @@ pub fn size_of(word: &[u8]) -> Option<usize>
 pub fn decode(word: &[u8], to: &mut [u8], at: usize)
     ensures { to.new ≡ write_at at (bytes_of word.now) to.old }
 {
-    let mut out = Output::new(to, at);
-    put_decoded(&mut out, word);
-}
-
-// The bytes that a word spells.
-fn put_decoded(out: &mut Output, word: &[u8])
-    ensures { Put (bytes_of word.now) out.old out.new }
-{
-    for i in 0..word.len() / 2 {
-        out.put(&[worth(word[2 * i]) * 16 + worth(word[2 * i + 1])]);
+    let start = at.min(to.len());
+    let count = (word.len() / 2).min(to.len() - start);
+    for i in 0..count {
+        to[start + i] = worth(word[2 * i]) * 16 + worth(word[2 * i + 1]);
     }
 }
 

@@ -13,9 +13,6 @@ const SAME_MEMORY: u64 = 1_024;
 /// A shorter time than this says more about the machine than about the program.
 const MEASURABLE: Duration = Duration::from_millis(20);
 const GREATEST_RATIO: u32 = 15;
-/// A ratio that is greater is measured anew, up to so many times in all: other work on the machine
-/// may have slowed one of the two runs, also on a processor, but hardly the same one each time.
-const TRIES: u32 = 4;
 
 #[derive(Default)]
 struct Count {
@@ -59,14 +56,6 @@ fn main() -> ExitCode {
         let ten_times = measure(&mut count, program, &name, &tenfold);
         if let (Some(once), Some(ten_times)) = (once, ten_times) {
             compare(&mut count, &kind.name, &once, &ten_times);
-            compare_times(
-                &mut count,
-                program,
-                &kind,
-                &tenfold,
-                once.time,
-                ten_times.time,
-            );
         }
     }
     for kind in load_texts::single() {
@@ -120,7 +109,7 @@ fn measure(count: &mut Count, program: &str, name: &str, text: &[u8]) -> Option<
     })
 }
 
-/// The ten times longer text takes no more memory than the single one.
+/// The ten times longer text beside the single one.
 fn compare(count: &mut Count, name: &str, once: &Measured, ten_times: &Measured) {
     let apart = ten_times.peak.abs_diff(once.peak);
     let known = once.peak > 0 && ten_times.peak > 0;
@@ -130,34 +119,13 @@ fn compare(count: &mut Count, name: &str, once: &Measured, ten_times: &Measured)
         grouped(ten_times.peak)
     );
     count.check(known && apart <= SAME_MEMORY, &what);
-}
-
-/// It takes not much more than ten times the time.
-fn compare_times(
-    count: &mut Count,
-    program: &str,
-    kind: &load_texts::Kind,
-    tenfold: &[u8],
-    mut once: Duration,
-    mut ten_times: Duration,
-) {
-    if once < MEASURABLE {
+    if once.time < MEASURABLE {
         return;
     }
-    for _ in 1..TRIES {
-        if ten_times <= once * GREATEST_RATIO {
-            break;
-        }
-        let again = |text| child::needed(program, text).ok()?.processor;
-        if let (Some(single), Some(longer)) = (again(&kind.text), again(tenfold)) {
-            (once, ten_times) = (single, longer);
-        }
-    }
     let what = format!(
-        "{}: on a processor {} ms, ten times {} ms",
-        kind.name,
-        once.as_millis(),
-        ten_times.as_millis()
+        "{name}: on a processor {} ms, ten times {} ms",
+        once.time.as_millis(),
+        ten_times.time.as_millis()
     );
-    count.check(ten_times <= once * GREATEST_RATIO, &what);
+    count.check(ten_times.time <= once.time * GREATEST_RATIO, &what);
 }
