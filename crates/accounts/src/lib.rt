@@ -128,6 +128,8 @@ fn login_check(held: LoginRecord, name: &[u8], password: &[u8]) -> Result<(), Re
     Ok(())
 }
 
+// Stays a number, n: each call promises an answer for every one (docs/DECISIONS.md, "Forms that stay").
+
 /// Logs a user in by name and password, strings that end at their first zero.
 pub fn login(n: u32, held: LoginRecord, table: &[u8], name: &[u8], password: &[u8]) -> Attempt
     ensures { result ≡ login n held table.now name.now password.now }

@@ -14,6 +14,7 @@ pub(crate) struct Files {
     pub(crate) passwords: [Span; 8],
 }
 
+// Stays: no place for no file, as `span_of` has it, since a plan holds a span for each.
 // Where the file with a path stands; the empty span where there is none.
 #[tactic(auto, unfolding(crate::specs::Files::span_of))]
 fn located(store: &[u8], path: &[u8]) -> Span

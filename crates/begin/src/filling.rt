@@ -44,6 +44,7 @@ fn put_segment(plan: &Plan, store: &[u8], row: usize, arena: &mut [u8], at: usiz
     }
 }
 
+// Stays by number: a row is a dseg's or an mseg's by its number.
 // Fills the arena without gaps: each dseg's file in order, then msegs of zeros.
 #[tactic(auto, unfolding(crate::specs::Filled::arena_image, crate::specs::Each::joined, octets::specs::Lists::over), using(crate::specs::FilledLaws::laid_more, crate::specs::FilledLaws::place_more))]
 pub(crate) fn fill_arena(plan: &Plan, store: &[u8], arena: &mut [u8])

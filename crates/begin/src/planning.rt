@@ -59,6 +59,7 @@ fn segment_of(setup: &Setup, files: &[Span; 16], row: usize, memory: Span) -> Se
     Segment::NONE
 }
 
+// Stays by number: a row is a dseg's or an mseg's by its number. And beside `seats_of`: two rows of two types.
 // All segments, one behind the other, where no place among them wraps.
 #[tactic(auto, unfolding(crate::specs::Planned::start_of, crate::specs::Each::firsts, crate::specs::Each::total), using(crate::proofs::Made::in_order))]
 fn segments_of(setup: &Setup, files: &[Span; 16]) -> [Segment; 32]

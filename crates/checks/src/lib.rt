@@ -3,4 +3,4 @@
 
 mod refusal;
 
-pub use refusal::{Refusal, number_behind};
+pub use refusal::{Refusal, number_behind, refuse};

@@ -1,5 +1,6 @@
 // Why a call or a start was refused.
 ghost use Rattle.std.specs.Prelude.{◌≡◌};
+ghost use Rattle.checks.specs.Checks.{refused};
 ghost use Rattle.checks.specs.Refusals.{number_of, behind};
 
 /// A refusal, by the name of its number. Two numbers have one name, BAD_PARTITION: 213, of a call, and 407, of a
@@ -80,6 +81,7 @@ pub enum Refusal {
 
 impl Refusal {
     /// The number that is answered.
+    // Stays: a match, where each name stands beside its number; a conversion would hide which number is meant.
     pub fn number(self) -> u32
         ensures { result ≡ number_of self }
     {
@@ -123,16 +125,26 @@ impl Refusal {
     }
 }
 
-/// The number of an outcome behind the common checks, which came to `n`: n where that refuses, else the outcome's own,
-/// or 0.
-pub fn number_behind(n: u32, outcome: Result<(), Refusal>) -> u32
-    ensures { result ≡ behind n outcome }
+/// n, or `number` where nothing was refused before (n is 0) and the test holds.
+// Stays: a public function over numbers, which promises an answer for every one.
+#[tactic(auto, unfolding(crate::specs::Checks::refused))]
+pub fn refuse(n: u32, test: bool, number: u32) -> u32
+    ensures { result ≡ refused n test number }
 {
     if n != 0 {
         return n;
     }
+    if test { number } else { 0 }
+}
+
+/// The number of an outcome behind the common checks, which came to `n`: n where that refuses, else the outcome's own,
+/// or 0.
+#[tactic(auto, unfolding(crate::specs::Checks::refused))]
+pub fn number_behind(n: u32, outcome: Result<(), Refusal>) -> u32
+    ensures { result ≡ behind n outcome }
+{
     match outcome {
-        Ok(()) => 0,
-        Err(refusal) => refusal.number(),
+        Ok(()) => refuse(n, false, 0),
+        Err(refusal) => refuse(n, true, refusal.number()),
     }
 }

@@ -17,7 +17,8 @@ pub mod random;
 mod transfer;
 
 /// What a call answers: its number (0 where it is done), how many keys or cells it moved, and the partition afterwards.
-// Stays: a public answer with its number, since number and count stand together (docs/DECISIONS.md, "Forms that stay").
+// Stays: a public answer with its number. n may be any number, and a `Result` would hold fewer (docs/DECISIONS.md,
+// "Forms that stay").
 #[derive(Clone, Copy, Debug, PartialEq, Eq)]
 pub struct Reply {
     pub number: u32,

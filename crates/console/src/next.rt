@@ -1,4 +1,7 @@
 //! Next-read and next-write.
+// Stays a number, n: each call promises an answer for every one (docs/DECISIONS.md, "Forms that stay").
+// Stays: the parameters one by one, as the public calls have them (docs/DECISIONS.md, "Forms that stay").
+// And two functions, which share what refuses them (`transfer`) and no work.
 ghost use Rattle.std.specs.Prelude.{◌≡◌};
 ghost use Rattle.console.specs.Console.{outcome, read_next, write_next};
 

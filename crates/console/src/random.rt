@@ -1,4 +1,6 @@
 //! Random read and write of a screen. Neither moves the cursor.
+// Stays a number, n: each call promises an answer for every one (docs/DECISIONS.md, "Forms that stay").
+// Stays: the parameters one by one, as the public calls have them (docs/DECISIONS.md, "Forms that stay").
 ghost use Rattle.std.specs.Prelude.{◌≡◌};
 ghost use Rattle.devices.specs.Screen.{transfer};
 ghost use Rattle.console.specs.Console.{outcome, read_random, written, write_random};

@@ -116,6 +116,7 @@ fn put_row(
     count + 1
 }
 
+// Stays: the parameters are handed on as the public function has them.
 // Lays the entries one behind the other, and says how many they are. The plan and the table are lent, so that no turn
 // copies them.
 fn put_entries(
@@ -175,6 +176,8 @@ fn check(buffer: &[u8]) -> Result<(), Refusal>
     }
     Ok(())
 }
+
+// Stays a number, n: each call promises an answer for every one (docs/DECISIONS.md, "Forms that stay").
 
 /// Writes a partition's configuration database, of 2,584 bytes, to the buffer's start. `n` is the number of the common
 /// checks, 0 where nothing is refused.

@@ -66,6 +66,7 @@ pub fn attention(plan: Plan, state: State) -> State
 }
 
 /// A device's fault flag is set or cleared; for a passive or unknown partition, or another device, nothing happens.
+// Stays a number, `device`: a host passes any, and only two of them are devices'.
 #[tactic(auto, unfolding(crate::specs::Events::fault))]
 pub fn fault(plan: Plan, state: State, partition: u32, device: u32, set: bool) -> State
     ensures { result ≡ fault partition device set plan state }

@@ -45,6 +45,7 @@ fn good_partition(part: &Partition) -> bool
     part.cursor < CELLS && part.keyboard.held <= Keyboard::ROOM
 }
 
+// Stay three functions: over any row each would be handed its one line as a closure.
 #[tactic(auto, unfolding(crate::specs::Test::all_of))]
 fn good_segments(kept: &Kept, segments: &[Segment]) -> bool
     ensures { result ≡ all_of (good_segment kept.now) segments.now }

@@ -73,6 +73,7 @@ pub fn good(image: &[u8]) -> bool
     ensures { result ≡ good image.now }
 {
     let mut cursor = Cursor::new();
+    // Stays: a `loop`, as in `find_from`.
     loop {
         match reader::read(image, cursor) {
             Item::File { title, next, .. } => {

@@ -40,7 +40,7 @@ impl<'a> Output<'a> {
         self.at = parts::sum(self.at, text.len(), MOST);
     }
 
-    // The last digit of v.
+    // The last digit of v. Stays by hand, as the digits below: `format!` would allocate, and a row is what is written.
     fn put_digit(&mut self, v: u64)
         ensures { Put ((48 + v % 10) ∷ []) self.old self.new }
     {

@@ -69,6 +69,8 @@ fn load_check(reach: &Reach, offset: usize, room: usize) -> Result<(), Refusal>
     Ok(())
 }
 
+// Stays a number, n: each call promises an answer for every one (docs/DECISIONS.md, "Forms that stay").
+
 /// Copies a segment's bytes from `offset` on into the buffer, as many as the buffer holds.
 pub fn load(n: u32, reach: Reach, offset: u32, arena: &[u8], buffer: &mut [u8]) -> u32
     ensures { told result buffer.new ≡ Memory·load n reach offset arena.now buffer.old }

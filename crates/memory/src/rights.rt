@@ -15,6 +15,7 @@ const ROWS: usize = 32;
 
 const DSEGS: usize = 16;
 
+// Stays: no `TryFrom`, since no number is refused.
 // The right of a number. Any number but RO and RW counts as NA.
 #[tactic(auto, unfolding(crate::specs::Rights::permission))]
 fn permission(number: u8) -> Permission

@@ -13,6 +13,7 @@ fn byte(s: &[u8], at: usize) -> u8
 }
 
 /// The number that the two bytes from place `at` on spell, the lowest byte first; a byte behind the end counts as 0.
+// Stays beside `read32`, as `write16` beside `write32`: two public names, and each is one call of the library.
 #[tactic(auto, using(crate::proofs::Bytes::little_2, crate::specs::PartLaws::length_part))]
 pub fn read16(s: &[u8], at: usize) -> u32
     ensures { result ≡ little (part at 2 s.now) }
@@ -31,7 +32,8 @@ pub fn read32(s: &[u8], at: usize) -> u32
     u32::from_le_bytes(bytes)
 }
 
-/// Spells the lower half of `number` in the two bytes from place `at` on, the lowest byte first, as far as the row goes.
+/// Spells the lower half of `number` in the two bytes from place `at` on, the lowest byte first, as far as the row
+/// goes.
 #[tactic(auto, using(crate::proofs::Bytes::spelled_2))]
 pub fn write16(s: &mut [u8], at: usize, number: u32)
     ensures { s.new ≡ write_at at (spelled 2 number) s.old }

@@ -3,6 +3,7 @@ ghost use Rattle.std.specs.Prelude.{◌≡◌, ◌+◌, min, replicate};
 ghost use Rattle.octets.specs.Lists.{part, write_at, on_part};
 
 /// The smaller of two numbers.
+// Stays: a public function, which promises what std's `min` does.
 pub fn least(a: usize, b: usize) -> usize
     ensures { result ≡ min a b }
 {
@@ -35,7 +36,8 @@ pub fn lay(from: &[u8], to: &mut [u8], at: usize)
     to[start..end].copy_from_slice(fitting);
 }
 
-/// Lays `from` over the n bytes of `to` from place `at` on, from place `offset` of these on: nothing outside them changes.
+/// Lays `from` over the n bytes of `to` from place `at` on, from place `offset` of these on: nothing outside them
+/// changes.
 pub fn place(from: &[u8], to: &mut [u8], at: usize, n: usize, offset: usize)
     ensures { to.new ≡ on_part at n (write_at offset from.now) to.old }
 {

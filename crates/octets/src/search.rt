@@ -6,6 +6,7 @@ ghost use Rattle.octets.specs.Search.{index_of};
 use super::parts;
 
 /// Whether two rows are the same.
+// Stays: `==` under the word that the definitions have for it.
 #[tactic(auto, using(crate::specs::Same::same_bytes_pointwise))]
 pub fn same(a: &[u8], b: &[u8]) -> bool
     ensures { result ≡ same_bytes a.now b.now }
@@ -14,6 +15,7 @@ pub fn same(a: &[u8], b: &[u8]) -> bool
 }
 
 /// The place of the first `byte`, or how many bytes there are where there is none.
+// Stays a number for none, as `index_of` has it: what is asked for next is the part in front, which is then the whole.
 #[tactic(auto, using(crate::proofs::Places::first_there))]
 pub fn find(s: &[u8], byte: u8) -> usize
     ensures place { result ≡ index_of byte s.now }

@@ -61,6 +61,7 @@ impl<'a> Input<'a> {
         if self.ended {
             return Ok(None);
         }
+        // A count that no run uses up: a proved loop has to end, and nothing says that the input does.
         for _ in 0..u64::MAX {
             self.refill(rt, answers)?;
             if self.gather() {

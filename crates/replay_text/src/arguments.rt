@@ -15,6 +15,7 @@ const MOST_LENT: usize = 4096;
 
 /// What was read: the numbers in their order (a length for bytes, 1 and 0 for a choice), and how many bytes were laid
 /// into the lent row.
+// Stays: a row of six and a count, since memory is fixed (docs/DECISIONS.md, "Forms that stay").
 #[derive(Clone, Copy, Debug)]
 pub struct Arguments {
     pub count: usize,

@@ -59,6 +59,7 @@ pub fn decode(word: &[u8], to: &mut [u8], at: usize)
 {
     let start = at.min(to.len());
     let count = (word.len() / 2).min(to.len() - start);
+    // Stays by place: two digits of one row are a byte of another. Put one by one, bytes took twice the time and more.
     for i in 0..count {
         to[start + i] = worth(word[2 * i]) * 16 + worth(word[2 * i + 1]);
     }

@@ -11,8 +11,8 @@ pub struct Letters {
     pub active: [bool; 8],
 }
 
-// Whether the word is made of A and P. Stays beside the one of the listing: no crate is common to both, and it is one
-// line.
+// Whether the word is made of A and P. Stays, as `flags` does, beside those of the listing: each is a line or two, and
+// each crate's definitions have a word of their own for it.
 fn all_letters(word: &[u8]) -> bool
     ensures { result ≡ list_all is_letter word.now }
 {

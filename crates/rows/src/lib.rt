@@ -1,7 +1,7 @@
 // Rows of records: payload length (four bytes, little-endian), kind (two bytes, little-endian), payload.
 //
-// A reader walks a row record by record: it holds the row as a slice and its place as a cursor by value. Any bytes can be read from
-// any place, and no sum wraps.
+// A reader walks a row record by record: it holds the row as a slice and its place as a cursor by value. Any bytes can
+// be read from any place, and no sum wraps.
 #![tactic(auto)]
 
 ghost use Rattle.std.specs.Prelude.{◌≡◌};

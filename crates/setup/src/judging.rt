@@ -48,6 +48,8 @@ impl<'a> Reading<'a> {
         }
     }
 
+    // Stay three functions: each takes its statement apart by `let .. else` (docs/DECISIONS.md, "Forms that stay").
+
     // A CODE statement, read from behind its word on.
     fn code(self, place: usize, behind: usize, before: &Progress) -> Result<Progress, Refused>
         ensures { judged_of result ≡ judged_by self.entry place before.now (code_at self.entry.text.now behind) }

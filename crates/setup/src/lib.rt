@@ -150,7 +150,7 @@ pub fn permission_table(setup: Setup) -> [[u8; 8]; 32]
     ensures { result ≡ permission_table setup }
 {
     let mut table = [[0u8; 8]; 32];
-    // Stays by index: each row is found in one of two lists by its number.
+    // Stays by index: each row is found in one of two lists by its number, here and in `row`.
     for i in 0..32 {
         table[i] = setup.row(i);
     }

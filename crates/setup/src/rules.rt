@@ -21,7 +21,7 @@ const SEGMENTS: usize = 16;
 // The largest mseg, in bytes.
 const LARGEST: u64 = 16_777_216;
 
-// Permissions in a segment's row.
+// Permissions in a segment's row, which has them as numbers, as the permission table does.
 const NO_ACCESS: u8 = 0;
 
 const READ_WRITE: u8 = 2;

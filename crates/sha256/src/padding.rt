@@ -48,8 +48,8 @@ fn word_at(bytes: &[u8], at: usize) -> u32
     word(bytes[at], bytes[at + 1], bytes[at + 2], bytes[at + 3])
 }
 
-// Stays: this row of words and the two below are written out. array::from_fn over sixteen of them was tried, and the proof
-// did not close; over eight it does.
+// Stays: this row of words and the two below are written out. array::from_fn over sixteen of them was tried, and the
+// proof did not close; over eight it does.
 fn whole_block(bytes: &[u8]) -> [u32; 16]
     requires { 64 ≤ length bytes.now }
     ensures { result ≡ words_at 16 0 bytes.now }

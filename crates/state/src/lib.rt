@@ -93,7 +93,7 @@ pub struct Plan {
 }
 
 /// Nobody, or the user of a record of the password table, counted from 0.
-// Stays: an enum of our own in a record (docs/DECISIONS.md, "Forms that stay").
+// Stays: an enum of our own in a record, a form that the build names (docs/DECISIONS.md, "Forms that stay").
 #[derive(Clone, Copy, Debug, PartialEq, Eq)]
 pub enum Login {
     Nobody,
@@ -180,6 +180,7 @@ impl Partition {
     }
 
     /// Whether a device, 1 the keyboard and 2 the screen, has its fault flag set; no other has one.
+    // Stays a number, here and in `with_fault`: a caller passes any, and only two of them are devices'.
     #[tactic(auto, unfolding(crate::specs::Parts::faulty, crate::specs::Devices::device_of))]
     pub fn faulty(self, device: u32) -> bool
         ensures { result ≡ faulty device self }

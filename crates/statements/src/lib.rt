@@ -146,6 +146,7 @@ pub fn code_at(text: &[u8], at: usize) -> Statement
     }
 }
 
+// Stay two functions: what differs is what stands behind the brace, and each is read in the order of the text.
 /// A DSEG statement, from behind its word.
 #[tactic(auto, unfolding(crate::specs::Statements::dseg_at))]
 pub fn dseg_at(text: &[u8], at: usize) -> Statement

@@ -1,4 +1,5 @@
 // A step of each call on the caller's login record and password table.
+// Stays: the parameters one by one, as the calls have them.
 ghost use Rattle.std.specs.Prelude.{◌≡◌};
 ghost use Rattle.terminal.specs.Terminal.{outcome};
 ghost use Rattle.steps.specs.World.{World, with_terminal, with_store, with_tables, fills, answers, step};

@@ -1,4 +1,5 @@
 // A step of each call on the caller's keyboard and screen.
+// Stays: the parameters one by one, as the calls have them.
 ghost use Rattle.std.specs.Prelude.{◌≡◌};
 ghost use Rattle.terminal.specs.Terminal.{outcome};
 ghost use Rattle.steps.specs.World.{World, with_terminal, with_screens, fills, answers, step};

@@ -93,7 +93,7 @@ impl Terminal {
         let wrong = self.tables_wrong(partition, tables);
         let n = self.guard((store.len() != self.plan.kept.store) | wrong, partition);
         let record = self.login_of(partition);
-        // Stays: both parts are cut here, since they are lent for writing, and a span lends its part for reading.
+        // Stays: the ends of both parts are told here. Both are lent for writing at once, and a span lends one part.
         let Seat { file, table, .. } = self.seat(partition);
         let from = file.place.min(store.len());
         let to = parts::sum(from, file.length, store.len());

@@ -1,4 +1,5 @@
 //! The calls on the caller's keyboard and screen.
+// Stays: the parameters one by one, as the public calls have them (docs/DECISIONS.md, "Forms that stay").
 ghost use Rattle.std.specs.Prelude.{◌≡◌};
 ghost use Rattle.terminal.specs.Terminal.{outcome, answer, with_partition};
 ghost use Rattle.terminal.specs.DeviceCalls.{read_next, read_random, write_next, write_random};

@@ -39,7 +39,8 @@ pub struct Answer {
 
 /// What start answers: its number (0 where the terminal is started), the line of the set-up text that it is about (0
 /// for none) and the next terminal.
-// Stays: a public answer with its number, since number and line stand together (docs/DECISIONS.md, "Forms that stay").
+// Stays: a public answer with its number and line. The terminal comes back refused or not, so no `Result` would hold it
+// (docs/DECISIONS.md, "Forms that stay").
 #[derive(Clone, Copy, Debug, PartialEq, Eq)]
 pub struct Started {
     pub number: u32,

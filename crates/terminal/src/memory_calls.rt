@@ -7,7 +7,7 @@ ghost use Rattle.terminal.specs.MemoryCalls.{load, store, flush, configuration};
 use super::{Answer, Terminal};
 use memory::{Reach, rights};
 
-// Stays: the permission table by value (docs/DECISIONS.md, "Forms that stay").
+// Stays: the permission table by value, and the parameters one by one (docs/DECISIONS.md, "Forms that stay").
 impl Terminal {
     // What a selector gives the calling partition.
     fn reach(&self, permissions: &[[u8; 8]; 32], partition: u32, selector: u32) -> Reach

@@ -32,6 +32,7 @@ pub fn token_place(text: &[u8], at: usize) -> usize
     ensures { result ≡ token_place text.now at }
 {
     let mut comment = false;
+    // Stays: by place, since the place is the answer.
     for i in at..text.len() {
         let b = text[i];
         if !gap_on(comment, b) {
