@@ -59,7 +59,7 @@ impl<'a> Words<'a> {
     /// s `set` or `clear`, o `yes` or `no`.
     pub fn read(self, kinds: &[u8]) -> Result<Arguments<'a>, BadLine> {
         let Words { line, at, given } = self;
-        let read = arguments::read(kinds, line, at, given).ok_or(BadLine)?;
+        let read = arguments::read(kinds, line, at, given).map_err(|_| BadLine)?;
         let numbers = read.numbers;
         let bytes = parts::piece(given, 0, read.held);
         Ok(Arguments { numbers, bytes })

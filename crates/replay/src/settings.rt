@@ -35,7 +35,7 @@ fn length_of(words: Words) -> Result<u32, BadLine> {
 impl<'a> Setting<'a> {
     /// `partitions LETTERS`
     pub fn partitions(words: Words<'a>) -> Result<Line<'a>, BadLine> {
-        let letters = letters::read(words.rest()).ok_or(BadLine)?;
+        let letters = letters::read(words.rest()).map_err(|_| BadLine)?;
         Ok(Line::Setting(Setting::Partitions(letters)))
     }
 

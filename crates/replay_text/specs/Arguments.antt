@@ -1,5 +1,5 @@
 -- docs/REPLAY.md: the words behind a line's first one, by a pattern with a letter for each.
-use Rattle.std.specs.Prelude.{true, false, Option, Some, None, cond, List, [], ◌∷◌, ℕ, ◌+◌, min, eqb, leb, ltb, length, drop, set, get_or, replicate}
+use Rattle.std.specs.Prelude.{true, false, Option, Some, None, Result, Ok, Err, cond, List, [], ◌∷◌, ℕ, ◌+◌, min, eqb, leb, ltb, length, drop, set, get_or, replicate}
 use Rattle.octets.specs.Lists.{write_at}
 use Rattle.octets.specs.Same.{same_bytes}
 use Rattle.replay_text.specs.Words.{words, number_of}
@@ -81,6 +81,10 @@ words_from line at = cond (leb at (length line)) (words (drop at line)) []
 unfoldable pub arguments_of : List ℕ → List ℕ → ℕ → List ℕ → Read
 arguments_of pattern line at given = read_words pattern (words_from line at) (told none given)
 
--- what a line gives: nothing where a word was refused
-unfoldable pub kept : Sofar → Option Arguments
-kept a = cond a.good (Some (record { count = a.count; numbers = a.numbers; held = a.held })) None
+-- what was read, whether or not a word was refused
+unfoldable pub gathered : Sofar → Arguments
+gathered a = record { count = a.count; numbers = a.numbers; held = a.held }
+
+-- what a line gives: an error where a word was refused
+unfoldable pub kept : Sofar → Result Arguments Arguments
+kept a = cond a.good (Ok (gathered a)) (Err (gathered a))

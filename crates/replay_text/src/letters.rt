@@ -43,15 +43,20 @@ fn flags(word: &[u8]) -> [bool; 8]
 }
 
 /// One letter or more, A for an active partition and P for a passive one; those behind the ninth are read and dropped.
-/// `None` where it is no such word.
-pub fn read(word: &[u8]) -> Option<Letters>
+///
+/// # Errors
+///
+/// Where it is no such word, with what is counted of it all the same: its bytes, and which of them are A.
+#[tactic(auto, unfolding(crate::specs::Letters::letters_of, crate::specs::Letters::counted), using(crate::specs::LetterLaws::letters_all, crate::specs::LetterLaws::eight))]
+pub fn read(word: &[u8]) -> Result<Letters, Letters>
     ensures { result ≡ letters_of word.now }
 {
-    if !are_letters(word) {
-        return None;
-    }
-    Some(Letters {
+    let letters = Letters {
         count: word.len().min(9) as u32,
         active: flags(word),
-    })
+    };
+    if !are_letters(word) {
+        return Err(letters);
+    }
+    Ok(letters)
 }

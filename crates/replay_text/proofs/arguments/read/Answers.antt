@@ -1,7 +1,7 @@
 use Rattle.std.proofs.Common.{sym, ap, ◌∙◌, ◌+◌, ◌<◌, arith, length, drop, length-drop}
-use Rattle.replay_text.specs.Arguments.{most, kept, told, refused, arguments_of, read_words, words_from}
+use Rattle.replay_text.specs.Arguments.{most, arguments_of, read_words, words_from}
 use Rattle.replay_text.specs.WordLaws.{index_le}
-use Rattle.replay_text.specs.ArgumentLaws.{read_step, read_end_lem, read_left}
+use Rattle.replay_text.specs.ArgumentLaws.{read_step}
 use Rattle.replay_text.proofs.arguments.read.Goals as goal
 
 pub loop-kind-init : goal.loop-kind-init
@@ -23,33 +23,3 @@ loop-kind-preserved c = let room : length c.args.line.now < most = omega arith i
     ∙ (read_step args.pattern.now loop.kind-index args.line.now loop.place word.result piece.result.now c.sum-place.result _
     c.loop-kind-test.true word.ensures piece.ensures c.sum-place.ensures room
     ∙ ap (read_words (drop (loop.kind-index + 1) args.pattern.now) (words_from args.line.now c.sum-place.result)) (sym c.argument.ensures))
-
--- a word is left
-pub returns-then-place-line-clause-arguments : goal.returns-then-place-line-clause-arguments
-unfolding kept told refused
-returns-then-place-line-clause-arguments c =
-    let args = c.args in
-    let loop = c.loop-kind in
-    rw (loop.invariant ∙ read_left args.pattern.now loop.kind-index args.line.now loop.place loop.sofar loop.given c.loop-kind-test.false c.if-place-line.true)
-
-pub returns-then-place-line-clause-given : goal.returns-then-place-line-clause-given
-unfolding told
-returns-then-place-line-clause-given c =
-    let args = c.args in
-    let loop = c.loop-kind in
-    rw (loop.invariant ∙ read_left args.pattern.now loop.kind-index args.line.now loop.place loop.sofar loop.given c.loop-kind-test.false c.if-place-line.true)
-
--- there is none
-pub returns-clause-arguments : goal.returns-clause-arguments
-unfolding told
-returns-clause-arguments c =
-    let args = c.args in
-    let loop = c.loop-kind in
-    rw (loop.invariant ∙ read_end_lem args.pattern.now loop.kind-index args.line.now loop.place _ c.loop-kind-test.false c.if-place-line.false) c.kept.ensures
-
-pub returns-clause-given : goal.returns-clause-given
-unfolding told
-returns-clause-given c =
-    let args = c.args in
-    let loop = c.loop-kind in
-    rw (loop.invariant ∙ read_end_lem args.pattern.now loop.kind-index args.line.now loop.place _ c.loop-kind-test.false c.if-place-line.false)
