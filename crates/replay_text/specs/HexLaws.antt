@@ -130,3 +130,16 @@ pub spelled_none : (l : List ℕ) → length l ≡ 0 → 45 ∷ [] ≡ spelled l
 unfolding spelled
 spelled_none [] h = refl
 spelled_none (b ∷ l) h = absurd (omega arith)
+
+-- the two digits of byte i
+pub higher_at : (l : List ℕ) (i : ℕ) → i < length l → get_or (hex_of l) (2 * i) 0 ≡ hex_digit (get_or l i 0 / 16)
+higher_at l i h =
+    let q : 2 * i / 2 ≡ i = omega arith in
+    let r : 2 * i % 2 ≡ 0 = omega arith in
+    rw (q, r) at (digit_at l (2 * i) (omega arith))
+
+pub lower_at : (l : List ℕ) (i : ℕ) → i < length l → get_or (hex_of l) (2 * i + 1) 0 ≡ hex_digit (get_or l i 0 % 16)
+lower_at l i h =
+    let q : (2 * i + 1) / 2 ≡ i = omega arith in
+    let r : (2 * i + 1) % 2 ≡ 1 = omega arith in
+    rw (q, r) at (digit_at l (2 * i + 1) (omega arith))

@@ -14,6 +14,14 @@ module _ {A : Type 0} where
       let n : length (take i new) ≡ i = length-take-le i new (omega arith) in
       rw (w, ← write_at-one, add-one, take-suc new i d h, e) (rw n at (write_at-append at (take i new) (x ∷ []) old))
 
+  -- and the next two
+  pub two_more : (at i : ℕ) (x y d : A) (new old now : List A) → i + 1 < length new → get_or new i d ≡ x → get_or new (i + 1) d ≡ y
+      → now ≡ write_at at (take i new) old → set (set now (at + i) x) (at + i + 1) y ≡ write_at at (take (i + 2) new) old
+  two_more at i x y d new old now h e f w =
+      let place : at + i + 1 ≡ at + (i + 1) = omega arith in
+      let last : i + 2 ≡ i + 1 + 1 = omega arith in
+      rw (place, last) (one_more at (i + 1) y d new old (set now (at + i) x) h f (one_more at i x d new old now (omega arith) e w))
+
   -- as many as there is room for are all that a write leaves
   pub all_written : (at start count : ℕ) (new old : List A) → start ≡ min at (length old) → count ≡ min (length new) (length old - start)
       → write_at start (take count new) old ≡ write_at at new old

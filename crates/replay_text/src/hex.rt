@@ -3,10 +3,11 @@ ghost use Rattle.std.specs.Prelude.{◌≡◌, ◌&&◌, ◌%◌, eqb, ltb, leng
 ghost use Rattle.std.specs.List.{list_all};
 ghost use Rattle.octets.specs.Lists.{write_at};
 ghost use Rattle.lines.specs.Wrote.{Put};
-ghost use Rattle.replay_text.specs.Hex.{is_hex, worth, hex_digit, size_of, bytes_of, spelled};
+ghost use Rattle.replay_text.specs.Hex.{is_hex, worth, hex_digit, size_of, bytes_of, hex_of, spelled};
 
+use super::MOST;
 use lines::Output;
-use octets::search;
+use octets::{parts, search};
 
 // A hex digit, 0 to 9 or a to f.
 fn is_hex(b: u8) -> bool
@@ -73,6 +74,22 @@ fn digit(n: u8) -> u8
     if n < 10 { b'0' + n } else { b'a' - 10 + n % 16 }
 }
 
+// Writes the digits of all these bytes over `to`, from place `at` on, as far as there is room.
+fn encode(from: &[u8], to: &mut [u8], at: usize)
+    ensures { to.new ≡ write_at at (hex_of from.now) to.old }
+{
+    let start = at.min(to.len());
+    let count = (2 * from.len()).min(to.len() - start);
+    // Stays by place, as in `decode`: of a row that a `zip` goes over for writing, nothing is known afterwards.
+    for i in 0..count / 2 {
+        to[start + 2 * i] = digit(from[i] / 16);
+        to[start + 2 * i + 1] = digit(from[i] % 16);
+    }
+    if count % 2 == 1 {
+        to[start + (count - 1)] = digit(from[count / 2] / 16);
+    }
+}
+
 /// The digits of all these bytes, or "-" where there is none.
 pub fn put_bytes(out: &mut Output, from: &[u8])
     ensures { Put (spelled from.now) out.old out.new }
@@ -81,7 +98,6 @@ pub fn put_bytes(out: &mut Output, from: &[u8])
         out.put(b"-");
         return;
     }
-    for &b in from {
-        out.put(&[digit(b / 16), digit(b % 16)]);
-    }
+    encode(from, out.row, out.at);
+    out.at = parts::sum(out.at, 2 * from.len(), MOST);
 }
