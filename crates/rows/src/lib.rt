@@ -7,8 +7,8 @@
 ghost use Rattle.std.specs.Prelude.{◌≡◌};
 ghost use Rattle.rows.specs.Steps.{first_place, step_at};
 
-use octets::numbers;
 use octets::span::Span;
+use octets::{numbers, parts};
 
 /// A place in a row.
 #[derive(Clone, Copy, Debug, PartialEq, Eq)]
@@ -51,11 +51,13 @@ impl Cursor {
         if left < 6 {
             return Step::Cut;
         }
-        let length = numbers::read32(row, at) as usize;
+        // Cut out once: in six bytes that are there no number's byte has to be asked for.
+        let header = parts::piece(row, at, 6);
+        let length = numbers::read32(header, 0) as usize;
         if left - 6 < length {
             return Step::Cut;
         }
-        let kind = numbers::read16(row, at + 4);
+        let kind = numbers::read16(header, 4);
         let place = at + 6;
         let payload = Span { place, length };
         let next = Cursor { at: place + length };
