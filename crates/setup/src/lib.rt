@@ -90,7 +90,9 @@ impl Setup {
     pub fn is_active(self, p: usize) -> bool
         ensures { result ≡ is_active self p }
     {
-        p < self.partitions && self.active.get(p).is_some_and(|active| *active)
+        // Taken out first: a row that is read in place would have the whole set-up copied at each call.
+        let active = self.active;
+        p < self.partitions && active.get(p).is_some_and(|active| *active)
     }
 
     /// Partition p has a CODE statement.
@@ -98,7 +100,9 @@ impl Setup {
     pub fn has_code(self, p: usize) -> bool
         ensures { result ≡ has_code self p }
     {
-        self.code.get(p).is_some_and(|path| path.length != 0)
+        // Taken out first, as above.
+        let code = self.code;
+        code.get(p).is_some_and(|path| path.length != 0)
     }
 
     // The set-up with the CODE statement of partition p.
