@@ -31,3 +31,6 @@ module _ (text : List ℕ) (n at count bits : ℕ) (h : count < n) where
       → permissions_from (n - count) text at count bits ≡ permissions_from (n - (count + 1)) text b (count + 1) (packed bits permission)
   unfolding permissions_from
   row_more a permission b e f = rw (one_more n count h, e, f)
+
+-- how a row goes on and ends
+pub ruleset one_by_one = (row_all, row_out, row_end, row-bad, row_more)

@@ -31,6 +31,7 @@ fn packed(bits: u32, permission: Permission) -> u32
 }
 
 // Permissions, each behind a comma; each takes three bytes at least, so that there are fewer than the text has bytes.
+#[tactic(auto, using(crate::specs::Rows::one_by_one))]
 fn permissions_at(text: &[u8], at: usize) -> Option<(Permissions, usize)>
     ensures { result ≡ permissions_at text.now at }
 {
