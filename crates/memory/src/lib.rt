@@ -103,7 +103,7 @@ fn store_check(reach: &Reach, offset: usize, room: usize) -> Result<(), Refusal>
 }
 
 /// Copies bytes over a segment's from `offset` on.
-#[tactic(auto, unfolding(crate::specs::Memory::store, checks::specs::Settle::settle))]
+#[tactic(auto, using(checks::specs::Laws::behind_after), unfolding(crate::specs::Memory::store, checks::specs::Settle::settle))]
 pub fn store(n: u32, reach: Reach, offset: u32, bytes: &[u8], arena: &mut [u8]) -> u32
     ensures { told result arena.new ≡ Memory·store n reach offset bytes.now arena.old }
 {
