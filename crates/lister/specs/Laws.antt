@@ -29,12 +29,12 @@ use Rattle.lister.specs.Listing.{Listed, result_of, shown, dseg_lines, mseg_line
 
 -- ---- one line more
 
-dseg-more : (text : List ℕ) (ds : List Segment) (p i : ℕ) (d : Segment) → d ≡ get_or ds i blank
+pub dseg-more : (text : List ℕ) (ds : List Segment) (p i : ℕ) (d : Segment) → d ≡ get_or ds i blank
     → dseg_lines text ds p i ++ line p dseg i (get_or d.permissions p 0) (bytes_of text d.path) ≡ dseg_lines text ds p (i + 1)
 unfolding dseg_lines
 dseg-more text ds p i d e = rw (e, add-one)
 
-mseg-more : (ms : List Segment) (p i : ℕ) (m : Segment) → m ≡ get_or ms i blank
+pub mseg-more : (ms : List Segment) (p i : ℕ) (m : Segment) → m ≡ get_or ms i blank
     → mseg_lines ms p i ++ line p mseg i (get_or m.permissions p 0) (decimal m.size) ≡ mseg_lines ms p (i + 1)
 unfolding mseg_lines
 mseg-more ms p i m e = rw (e, add-one)
