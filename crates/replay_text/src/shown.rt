@@ -22,7 +22,8 @@ fn show(cells: &[u8], to: &mut [u8], at: usize)
 {
     let start = at.min(to.len());
     let count = cells.len().min(to.len() - start);
-    // Stays by place: of a row that a `zip` goes over for writing, nothing is known afterwards.
+    // Stays by place: of a row that a `zip` goes over for writing, nothing is known afterwards. Put cell by
+    // cell into the output, a screen took three times the time and more.
     for i in 0..count {
         to[start + i] = shown_byte(cells[i]);
     }
