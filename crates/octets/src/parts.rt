@@ -22,7 +22,7 @@ pub fn piece(s: &[u8], at: usize, n: usize) -> &[u8]
     ensures { result.now ≡ part at n s.now }
 {
     let start = at.min(s.len());
-    let end = sum(start, n, s.len());
+    let end = start + n.min(s.len() - start);
     &s[start..end]
 }
 

@@ -80,8 +80,7 @@ fn encode(from: &[u8], to: &mut [u8], at: usize)
 {
     let start = at.min(to.len());
     let count = (2 * from.len()).min(to.len() - start);
-    // Stays by place, as in `decode`: of a row that a `zip` goes over for writing, nothing is known afterwards. Put
-    // byte by byte into the output, digits took twice the time and more.
+    // Stays by place, as in `decode`: of a row that a `zip` goes over for writing, nothing is known afterwards.
     for i in 0..count / 2 {
         to[start + 2 * i] = digit(from[i] / 16);
         to[start + 2 * i + 1] = digit(from[i] % 16);

@@ -22,8 +22,7 @@ fn show(cells: &[u8], to: &mut [u8], at: usize)
 {
     let start = at.min(to.len());
     let count = cells.len().min(to.len() - start);
-    // Stays by place: of a row that a `zip` goes over for writing, nothing is known afterwards. Put cell by
-    // cell into the output, a screen took three times the time and more.
+    // Stays by place: of a row that a `zip` goes over for writing, nothing is known afterwards.
     for i in 0..count {
         to[start + i] = shown_byte(cells[i]);
     }

@@ -7,8 +7,8 @@
 ghost use Rattle.std.specs.Prelude.{◌≡◌};
 ghost use Rattle.rows.specs.Steps.{first_place, step_at};
 
-use octets::numbers;
 use octets::span::Span;
+use octets::{numbers, parts};
 
 /// A place in a row.
 #[derive(Clone, Copy, Debug, PartialEq, Eq)]
@@ -51,8 +51,8 @@ impl Cursor {
         if left < 6 {
             return Step::Cut;
         }
-        // Cut out once, and by its ends: of six bytes that are there, no read has to ask whether its bytes are there.
-        let header = &row[at..at + 6];
+        // Cut out once: in six bytes that are there no number's byte has to be asked for.
+        let header = parts::piece(row, at, 6);
         let length = numbers::read32(header, 0) as usize;
         if left - 6 < length {
             return Step::Cut;

@@ -1,7 +1,5 @@
 -- `rows::Cursor::read` meets its contract: at each `return` the tests that led there say which step of the walk it is. Assumes nothing.
-use Rattle.std.proofs.Common.{sym, ◌≡◌, ◌+◌, ◌-◌, add-zero, arith}
-use borrow.Rule.Slice.PartMut.{mid_of}
-use Rattle.octets.specs.LentLaws.{lent-part}
+use Rattle.std.proofs.Common.{sym, ◌∙◌, ◌≡◌, ◌+◌, add-zero, arith}
 use Rattle.octets.specs.Lists.{part}
 use Rattle.octets.specs.Numbers.{little}
 use Rattle.octets.specs.PartLaws.{part-part}
@@ -17,18 +15,14 @@ returns-then-left-lt6 c = let args = c.args in
 
 pub returns-then-left-length : goal.returns-then-left-length
 returns-then-left-length c = let args = c.args in
-    let header : mid_of args.self.at (args.self.at + 6 - args.self.at) args.row.now ≡ part args.self.at 6 args.row.now =
-    lent-part args.self.at 6 args.self.at (args.self.at + 6) args.row.now (omega arith) (omega arith) in
     let length : c.read32-length.result ≡ little (part args.self.at 4 args.row.now) =
-    rw (c.read32-length.ensures, header, part-part 0 4 args.self.at 6 args.row.now (omega arith), add-zero) in
+    rw (c.read32-length.ensures, c.piece-header.ensures, part-part 0 4 args.self.at 6 args.row.now (omega arith), add-zero) in
     sym (step-short args.row.now args.self.at (omega arith) (omega (arith, length)))
 
 pub returns : goal.returns
 returns c = let args = c.args in
-    let header : mid_of args.self.at (args.self.at + 6 - args.self.at) args.row.now ≡ part args.self.at 6 args.row.now =
-    lent-part args.self.at 6 args.self.at (args.self.at + 6) args.row.now (omega arith) (omega arith) in
     let length : c.read32-length.result ≡ little (part args.self.at 4 args.row.now) =
-    rw (c.read32-length.ensures, header, part-part 0 4 args.self.at 6 args.row.now (omega arith), add-zero) in
+    rw (c.read32-length.ensures, c.piece-header.ensures, part-part 0 4 args.self.at 6 args.row.now (omega arith), add-zero) in
     let kind : c.read16-kind.result ≡ little (part (args.self.at + 4) 2 args.row.now) =
-    rw (c.read16-kind.ensures, header, part-part 4 2 args.self.at 6 args.row.now (omega arith)) in
+    rw (c.read16-kind.ensures, c.piece-header.ensures, part-part 4 2 args.self.at 6 args.row.now (omega arith)) in
     rw kind (sym (step_record args.row.now args.self.at c.read32-length.result length (omega arith)))
